@@ -1,0 +1,53 @@
+//! The parts of a core that are known memory.
+
+ghost use Rattle.std.specs.Prelude.{◌≡◌, All};
+ghost use Rattle.paging_model.specs.Memory.{IsPlaced};
+
+use std::marker::Model;
+
+/// A part of a core's file, and the physical address of its first byte.
+#[derive(Clone, Copy, Debug)]
+pub struct Segment<'a> {
+    pub phys: u64,
+    pub bytes: &'a [u8],
+}
+
+/// Segments in the order of their headers. Each has bytes, and ends at 2 to the 52 at most.
+///
+/// Contracts see the list of them as extents of physical memory.
+#[derive(Debug, Drop)]
+pub struct Segments<'a> {
+    items: Vec<Segment<'a>>,
+}
+
+impl<'a> Model for Segments<'a> {
+    ghost use Rattle.std.specs.Prelude.{List, All};
+    ghost use Rattle.paging_model.specs.Memory.{Extent, IsPlaced};
+    ghost use Rattle.elf_core.specs.Extents.{extents};
+
+    ghost Value = { List Extent };
+
+    ghost view = { λ s. extents s.items.items };
+
+    ghost invariant = { λ s. All IsPlaced (extents s.items.items) };
+}
+
+impl<'a> Segments<'a> {
+    ghost use Rattle.elf_core.specs.Extents.{extents};
+
+    /// Takes the list over.
+    pub fn from_vec(items: Vec<Segment<'a>>) -> Segments<'a>
+        requires { All IsPlaced (extents items.items) }
+        ensures { result ≡ extents items.entry.items }
+    {
+        Segments { items }
+    }
+
+    /// Lends the list.
+    pub fn as_slice(&self) -> &[Segment<'a>]
+        ensures value { extents result.now ≡ self.now }
+        ensures placed { All IsPlaced self.now }
+    {
+        self.items.as_slice()
+    }
+}

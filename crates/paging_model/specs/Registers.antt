@@ -1,0 +1,98 @@
+-- The registers that paging goes by: their bits, each named once, and what they set.
+-- SDM 3A, "Control Registers" and "Paging Modes and Control Bits"; "Hierarchical Paging Structures: an Overview" for
+-- the root; "Process-Context Identifiers" for the PCID.
+use Rattle.std.specs.Prelude.{ℕ, ◌-◌, ◌≤◌, min, max, Bool, if◌then◌else◌}
+use Rattle.std.proofs.Math.Nat.{le-max_left, max-le, min-le_right}
+use Rattle.std.proofs.Common.{lit≤}
+use Rattle.paging_model.specs.BitRanges.{bit, field, in_place}
+use Rattle.paging_model.specs.declared.registers.Machine.{Machine}
+use Rattle.paging_model.specs.declared.registers.Settings.{Settings}
+use Rattle.paging_model.specs.declared.registers.Regs.{Regs}
+
+-- CR0: protection, supervisor write protection, paging
+abbrev pub pe : Regs → Bool
+pe regs = bit regs.cr0 0
+
+abbrev pub wp : Regs → Bool
+wp regs = bit regs.cr0 16
+
+abbrev pub pg : Regs → Bool
+pg regs = bit regs.cr0 31
+
+-- CR3: linear-address masking of user pointers
+abbrev pub lam_u57 : Regs → Bool
+lam_u57 regs = bit regs.cr3 61
+
+abbrev pub lam_u48 : Regs → Bool
+lam_u48 regs = bit regs.cr3 62
+
+-- CR4: physical-address extension, global pages, 5-level paging, PCIDs, supervisor-mode execution and access
+-- prevention, protection keys of user and of supervisor pages, linear-address space separation, masking of
+-- supervisor pointers
+abbrev pub pae : Regs → Bool
+pae regs = bit regs.cr4 5
+
+abbrev pub pge : Regs → Bool
+pge regs = bit regs.cr4 7
+
+abbrev pub la57 : Regs → Bool
+la57 regs = bit regs.cr4 12
+
+abbrev pub pcide : Regs → Bool
+pcide regs = bit regs.cr4 17
+
+abbrev pub smep : Regs → Bool
+smep regs = bit regs.cr4 20
+
+abbrev pub smap : Regs → Bool
+smap regs = bit regs.cr4 21
+
+abbrev pub pke : Regs → Bool
+pke regs = bit regs.cr4 22
+
+abbrev pub pks : Regs → Bool
+pks regs = bit regs.cr4 24
+
+abbrev pub lass : Regs → Bool
+lass regs = bit regs.cr4 27
+
+abbrev pub lam_sup : Regs → Bool
+lam_sup regs = bit regs.cr4 28
+
+-- EFER: IA-32e mode enabled and active, execute-disable
+abbrev pub lme : Regs → Bool
+lme regs = bit regs.efer 8
+
+abbrev pub lma : Regs → Bool
+lma regs = bit regs.efer 10
+
+abbrev pub nxe : Regs → Bool
+nxe regs = bit regs.efer 11
+
+-- RFLAGS: the bit that lets explicit supervisor data accesses pass SMAP
+abbrev pub alignment_check : ℕ → Bool
+alignment_check rflags = bit rflags 18
+
+-- the machine with a physical width and with 1-GByte pages or without; a width outside 32 to 52 is held to the nearer end
+abbrev pub machine_of : ℕ → Bool → Machine
+machine_of m big = record {
+  m = max 32 (min m 52);
+  big = big;
+  least = le-max_left 32 (min m 52);
+  most = max-le (lit≤ tt) (min-le_right m 52);
+}
+
+-- the physical address of the top table: CR3 bits M-1:12
+abbrev pub root_of : Regs → Machine → ℕ
+root_of regs machine = in_place regs.cr3 (machine.m - 1) 12
+
+-- what the meaning of an entry and the length of a walk depend on
+abbrev pub settings_of : Regs → Machine → Settings
+settings_of regs machine = record {
+  m = machine.m;
+  big = machine.big;
+  la57 = la57 regs;
+  nxe = nxe regs;
+  least = machine.least;
+  most = machine.most;
+}

@@ -1,0 +1,33 @@
+//! Worked examples of the definitions, each a theorem that computes.
+
+ghost use Rattle.paging_model.specs.WorkedExamples.{OfMemory, OfAddresses, OfRegisters, OfEntries, OfWalks};
+ghost use Rattle.paging_model.specs.declared.registers.Machine.{Machine};
+ghost use Rattle.paging_model.specs.declared.registers.Settings.{Settings};
+ghost use Rattle.std.specs.Prelude.{◌≡◌, true, false};
+
+/// Bytes of overlapping extents, and numbers of several bytes.
+pub fn memory()
+    ensures { OfMemory }
+{}
+
+/// Canonical addresses, and the entries that an address selects.
+pub fn addresses()
+    ensures { OfAddresses }
+{}
+
+/// Register states that are accepted or refused.
+pub fn registers()
+    ensures { (machine : Machine) → machine.m ≡ 40 → OfRegisters machine }
+{}
+
+/// Entries of each level.
+#[tactic(auto, unfolding(crate::specs::Entries::entry_of, crate::specs::Entries::is_reserved))]
+pub fn entries()
+    ensures { (settings : Settings) → settings.m ≡ 40 → settings.big ≡ true → settings.la57 ≡ false → settings.nxe ≡ true → OfEntries settings }
+{}
+
+/// Walks of small tables.
+#[tactic(auto, unfolding(crate::specs::Entries::entry_of, crate::specs::Entries::is_reserved, crate::specs::Walking::walk, crate::specs::Walking::walk_from, crate::specs::Memory::entry_at))]
+pub fn walks()
+    ensures { (settings : Settings) → settings.m ≡ 40 → settings.big ≡ true → settings.la57 ≡ false → settings.nxe ≡ true → OfWalks settings }
+{}
