@@ -1,0 +1,8 @@
+-- Each text computes.
+use Rattle.std.proofs.Common.{refl}
+use Rattle.std.specs.Fmt.{digits}
+use Rattle.history_model.proofs.examples.texts.Goals as goal
+
+pub returns : goal.returns
+unfolding digits
+returns c = record { granted = refl; denied = refl; not_canonical = refl; refused = refl }

@@ -1,0 +1,9 @@
+pub mod Statuses
+pub mod Log
+pub mod Numbers
+pub mod LogLine
+pub mod History
+pub mod Asking
+pub mod Texts
+pub mod Outcome
+pub mod WorkedExamples

@@ -1,0 +1,13 @@
+-- The numbers by which a run's ends are known.
+use Rattle.std.specs.Prelude.{ℕ}
+use Rattle.history_model.specs.declared.statuses.Status.{Status}
+use Rattle.history_model.specs.declared.statuses.Status.TheVariants.{Answered, Usage, CoreRefused, LogRefused, ReadFailed, WriteFailed, OutOfMemory}
+
+abbrev pub code_of : Status → ℕ
+code_of Answered = 0
+code_of Usage = 2
+code_of CoreRefused = 3
+code_of LogRefused = 4
+code_of ReadFailed = 5
+code_of WriteFailed = 6
+code_of OutOfMemory = 7

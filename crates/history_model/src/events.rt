@@ -1,0 +1,21 @@
+//! The events that the lines of a log spell.
+
+use paging_model::access::Access;
+
+/// An event: one line of the log that isn't empty and no comment.
+#[derive(Clone, Copy, Debug, PartialEq, Eq)]
+pub enum Event {
+    /// Whether a processor is granted an access by a pointer, and at which physical address.
+    Ask {
+        cpu: u32,
+        access: Access,
+        pointer: u64,
+    },
+}
+
+/// Why a line is refused.
+#[derive(Clone, Copy, Debug, PartialEq, Eq)]
+pub enum Cause {
+    /// This version doesn't handle the line's form, or a form of a page that it meets.
+    NotBuilt,
+}
