@@ -1,1 +1,6 @@
 pub mod Extents
+pub mod Fields
+pub mod FileHeader
+pub mod ProgramHeaders
+pub mod StateNotes
+pub mod Cores

@@ -1,1 +1,8 @@
+pub mod BuiltWalks
+pub mod Ends
+pub mod FixedTexts
+pub mod Partway
+pub mod Replies
+pub mod Run
+pub mod Standing
 pub mod Words

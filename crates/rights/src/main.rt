@@ -1,7 +1,13 @@
 //! Answers the lines of a log about a memory core.
 #![tactic(auto)]
 
+mod entries;
 mod lines;
+mod logs;
 mod numbers;
+mod replies;
+mod session;
+mod texts;
+mod walks;
 
 fn main() {}

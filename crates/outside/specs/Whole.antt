@@ -1,0 +1,12 @@
+-- What reading a name as a whole gives.
+use Rattle.std.specs.Prelude.{◌≡◌, ℕ, ◌≤◌, List, length, take, Bool, nat_lt}
+
+-- the first bytes up to the limit, and whether there are more
+pub record IsWhole (content : List ℕ) (limit : ℕ) (bytes : List ℕ) (cut : Bool) : Type 0 where
+  pub bytes_are : bytes ≡ take limit content
+  pub cut_is : cut ≡ nat_lt limit (length content)
+
+-- the bytes are the first ones
+pub record IsFront (content bytes : List ℕ) : Type 0 where
+  pub within : length bytes ≤ length content
+  pub same : bytes ≡ take (length bytes) content

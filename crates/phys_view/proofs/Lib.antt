@@ -1,0 +1,2 @@
+pub mod FirstCovering
+pub mod Numbers

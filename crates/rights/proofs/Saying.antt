@@ -1,0 +1,83 @@
+-- What is said of the lines of a log, line by line.
+use Rattle.std.proofs.Common.{◌≡◌, ℕ, ◌+◌, List, [], ◌∷◌, ◌++◌, refl, ap, sym, ◌∙◌, append_assoc, subst}
+use Rattle.std.specs.Prelude.{Option, Some, None, Result, Ok, Err, ◌⊎◌}
+use Rattle.std.proofs.Common.{inl, inr}
+use Rattle.paging_model.specs.declared.registers.Regs.{Regs}
+use Rattle.history_model.specs.History.{History, next, regs}
+use Rattle.history_model.specs.LogLine.{event_of}
+use Rattle.history_model.specs.Asking.{Answers, refusal}
+use Rattle.history_model.specs.Texts.{answer_lines, line_refusal}
+use Rattle.history_model.specs.Outcome.{Outcome, after, ended, refused, Says, SaysLine, SaysEvent}
+use Rattle.history_model.specs.declared.events.Event.{Event}
+use Rattle.history_model.specs.declared.events.Event.TheVariants as event
+use Rattle.history_model.specs.declared.events.Cause.{Cause}
+use Rattle.history_model.specs.declared.answers.Answer.{Answer}
+use Rattle.history_model.specs.declared.statuses.Status.{Status}
+use Rattle.rights.specs.Replies.{Refuses}
+
+-- the rest of the lines in a later moment
+abbrev Later : ℕ → List (List ℕ) → History → Outcome → Type 0
+Later number rest moment said = Says moment number rest said
+
+pub says-line : (moment : History) (number : ℕ) (line : List ℕ) (rest : List (List ℕ)) (said : Outcome) → Says moment number (line ∷ rest) said
+    → SaysLine (λ later left. Says later (number + 1) rest left) moment (number + 1) (event_of line) said
+unfolding Says
+says-line moment number line rest said says = says
+
+pub line-says : (moment : History) (number : ℕ) (line : List ℕ) (rest : List (List ℕ)) (said : Outcome)
+    → SaysLine (λ later left. Says later (number + 1) rest left) moment (number + 1) (event_of line) said
+    → Says moment number (line ∷ rest) said
+unfolding Says
+line-says moment number line rest said says = says
+
+-- a line without an event changes nothing
+pub skips : (moment : History) (number : ℕ) (line : List ℕ) (rest : List (List ℕ)) (said : Outcome) → event_of line ≡ Ok None
+    → Says moment (number + 1) rest said → Says moment number (line ∷ rest) said
+skips moment number line rest said none says = line-says moment number line rest said (rw none says)
+
+pub skipped : (moment : History) (number : ℕ) (line : List ℕ) (rest : List (List ℕ)) (said : Outcome) → event_of line ≡ Ok None
+    → Says moment number (line ∷ rest) said → Says moment (number + 1) rest said
+skipped moment number line rest said none says = rw none at (says-line moment number line rest said says)
+
+-- an accepted event is answered, and the rest follows
+pub answers : (moment : History) (number : ℕ) (line : List ℕ) (rest : List (List ℕ)) (event : Event) (answer : Answer) (left : Outcome)
+    → event_of line ≡ Ok (Some event) → refusal moment event ≡ None → Answers moment event answer → Says (next moment event) (number + 1) rest left
+    → Says moment number (line ∷ rest) (after (answer_lines answer) left)
+answers moment number line rest event answer left spelled accepted is says =
+    line-says moment number line rest _ (rw (spelled, accepted) (answer, left, is, says, refl))
+
+-- there is one answer to an event
+pub answer_once : (moment : History) (event : Event) (answer other : Answer) → Answers moment event answer → Answers moment event other → answer ≡ other
+answer_once moment (event.Ask cpu access pointer) answer other is was =
+    let same : is.0 ≡ was.0 = cc in
+    is.2 ∙ (rw same (sym was.2))
+
+pub answered : (moment : History) (number : ℕ) (line : List ℕ) (rest : List (List ℕ)) (event : Event) (answer : Answer) (said : Outcome)
+    → event_of line ≡ Ok (Some event) → refusal moment event ≡ None → Answers moment event answer → Says moment number (line ∷ rest) said
+    → (left : Outcome) × Says (next moment event) (number + 1) rest left × (said ≡ after (answer_lines answer) left)
+answered moment number line rest event answer said spelled accepted is says =
+    let told = rw (spelled, accepted) at (says-line moment number line rest said says) in
+    let same : told.0 ≡ answer = answer_once moment event told.0 answer told.2 is in
+    (told.1, told.3, told.4 ∙ ap (λ (a : Answer). after (answer_lines a) told.1) same)
+
+-- a refused line ends the outcome
+pub refuses : (moment : History) (number : ℕ) (line : List ℕ) (rest : List (List ℕ)) (cause : Cause)
+    → Refuses moment line cause → Says moment number (line ∷ rest) (refused (number + 1) cause)
+refuses moment number line rest cause is =
+    elim is [ inl unspelled ↦ line-says moment number line rest _ (rw unspelled refl)
+            | inr spelled ↦ line-says moment number line rest _ (rw (spelled.1, spelled.2) refl) ]
+
+pub refused_only : (moment : History) (number : ℕ) (line : List ℕ) (rest : List (List ℕ)) (cause : Cause) (said : Outcome)
+    → Refuses moment line cause → Says moment number (line ∷ rest) said → said ≡ refused (number + 1) cause
+refused_only moment number line rest cause said is says =
+    elim is [ inl unspelled ↦ rw unspelled at (says-line moment number line rest said says)
+            | inr spelled ↦ rw (spelled.1, spelled.2) at (says-line moment number line rest said says) ]
+
+-- nothing is said of no lines
+pub nothing_left : (moment : History) (number : ℕ) → Says moment number [] ended
+unfolding Says
+nothing_left moment number = refl
+
+-- lines before other lines
+pub after-after : (front text : List (List ℕ)) (left : Outcome) → after front (after text left) ≡ after (front ++ text) left
+after-after front text left = let e : front ++ (text ++ left.lines) ≡ (front ++ text) ++ left.lines = sym (append_assoc front text left.lines) in rw e refl
