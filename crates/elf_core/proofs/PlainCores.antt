@@ -1,12 +1,10 @@
 -- A core that a plain file states has one processor, which its machine allows.
-use Rattle.std.proofs.Common.{◌≡◌, ℕ, List, [], ◌∷◌, Bool, true, false, Option, Some, None, Result, Ok, Err, is_ok, refl, sym, subst, ◌∙◌, ap, arith}
+use Rattle.std.proofs.Common.{◌≡◌, ℕ, List, Bool, true, false, Option, Some, None, Result, Ok, Err, is_ok, refl, subst}
 use Rattle.std.specs.Prelude.{◌&&◌, ◌==◌, if◌then◌else◌, ok_or, option_and_then}
 use Rattle.std.proofs.lemmas.Option.{cond_some}
 use Rattle.std.proofs.lemmas.Bool.{eqb-true}
-use Rattle.std.proofs.lemmas.Grind.{common_steps}
 use Rattle.paging_model.specs.RegisterRules.{check_of}
 use Rattle.paging_model.specs.declared.registers.Machine.{Machine}
-use Rattle.paging_model.specs.declared.registers.RegRule.{RegRule}
 use Rattle.paging_model.specs.Memory.{Extent}
 use Rattle.elf_core.specs.StateNotes.{machine_note, processor_note, processor_stated, is_state_note, description, regs_at, has_zeros}
 use Rattle.elf_core.specs.Fields.{word_at}

@@ -11,6 +11,8 @@ use Rattle.elf_core.specs.ProgramHeaders.{program_header_at, is_note, segment_of
 use Rattle.elf_core.specs.StateNotes.{machine_note, processor_note}
 use Rattle.elf_core.specs.declared.headers.ProgramHeader.{ProgramHeader}
 use Rattle.elf_core.specs.declared.processors.Processor.{Processor}
+use Rattle.elf_core.specs.Extents.{extent}
+use Rattle.elf_core.specs.declared.core_file.Plain.{Plain}
 use Rattle.elf_core.specs.declared.core_file.Core.{Core}
 use Rattle.elf_core.specs.declared.core_file.CoreFault.{CoreFault}
 use Rattle.elf_core.specs.declared.core_file.CoreFault.TheVariants.{NotBuilt, Memory}
@@ -44,6 +46,10 @@ core_with segment machine processor = record {
   machine = machine;
   processors = processor ∷ [];
 }
+
+-- the core of its parts as they are read
+abbrev pub stated_core : Plain → Core
+stated_core plain = core_with (extent plain.segment) plain.machine plain.processor
 
 -- the core whose segment, machine and processor stand at the places of a plain file
 unfoldable pub core_in_place : List ℕ → Option Core

@@ -3,11 +3,14 @@
 ghost use Rattle.std.specs.Prelude.{◌≡◌, Ok, IfOk, IfErr, IfSome, IsTrue, length, ◌≤◌, option_map};
 ghost use Rattle.paging_model.specs.Memory.{IsPlaced};
 ghost use Rattle.elf_core.specs.Extents.{extent};
-ghost use Rattle.elf_core.specs.Cores.{is_plain_file, is_plain_note_header, is_plain_state, is_plain_processor, core_with, plain_core, core_of, IsRefusalOf, HasOneProcessor};
+ghost use Rattle.elf_core.specs.Cores.{is_plain_file, is_plain_note_header, is_plain_state, is_plain_processor, stated_core, plain_core, core_of, IsRefusalOf, HasOneProcessor};
 
 use crate::fields::{half_at, xword_at};
-use crate::headers::{ProgramHeader, is_core, program_header_at};
-use crate::notes::{machine_note, processor_note};
+use crate::headers::{
+    E_PHENTSIZE, E_PHNUM, E_PHOFF, FILE_HEADER_SIZE, PROGRAM_HEADER_SIZE, PT_NOTE, ProgramHeader,
+    is_core, program_header_at,
+};
+use crate::notes::{MACHINE_NOTE_SIZE, PROCESSOR_NOTE_SIZE, machine_note, processor_note};
 use crate::processors::{Processor, Processors};
 use crate::segments::{Segment, Segments};
 use proc_regs::bit_ranges::bit;
@@ -32,25 +35,23 @@ pub struct Core<'a> {
 #[derive(Clone, Copy, Debug, PartialEq, Eq, Error)]
 pub enum CoreFault {
     /// The file isn't of the one form that is read so far.
-    #[error("not a plain core")]
+    #[error("the file isn't a core of the one form that is read so far")]
     NotBuilt,
     /// Memory ran out.
     #[error("out of memory")]
     Memory,
 }
 
-/// The place of the first program header.
-const NOTE_HEADER: usize = 64;
-/// The place of the second program header.
-const LOAD_HEADER: usize = 120;
-/// The place of the note of the machine.
-const MACHINE_NOTE: usize = 176;
-/// The place of the note of the processor.
-const PROCESSOR_NOTE: usize = 208;
-/// The least length of a plain core: up to the end of its notes.
-const NOTES_END: usize = 296;
-/// p_type of notes.
-const NOTE: u32 = 4;
+// The places of a plain core's parts, one after another.
+const NOTE_HEADER: usize = FILE_HEADER_SIZE;
+
+const LOAD_HEADER: usize = NOTE_HEADER + PROGRAM_HEADER_SIZE;
+
+const MACHINE_NOTE: usize = LOAD_HEADER + PROGRAM_HEADER_SIZE;
+
+const PROCESSOR_NOTE: usize = MACHINE_NOTE + MACHINE_NOTE_SIZE;
+
+const NOTES_END: usize = PROCESSOR_NOTE + PROCESSOR_NOTE_SIZE;
 
 /// What a plain core is made of.
 #[derive(Clone, Copy)]
@@ -60,6 +61,7 @@ struct Plain<'a> {
     processor: Processor,
 }
 
+/// Whether two program headers and the notes stand where a plain core has them.
 #[tactic(auto, unfolding(crate::specs::Cores::is_plain_file))]
 fn is_plain_file(bytes: &[u8]) -> bool
     ensures value { result ≡ is_plain_file bytes.now }
@@ -67,18 +69,22 @@ fn is_plain_file(bytes: &[u8]) -> bool
 {
     bytes.len() >= NOTES_END
         && is_core(bytes)
-        && xword_at(bytes, 32) == 64
-        && half_at(bytes, 54) == 56
-        && half_at(bytes, 56) == 2
+        && xword_at(bytes, E_PHOFF) == NOTE_HEADER as u64
+        && half_at(bytes, E_PHENTSIZE) == PROGRAM_HEADER_SIZE as u16
+        && half_at(bytes, E_PHNUM) == 2
 }
 
+/// Whether a program header names the two notes of a plain core.
 #[tactic(auto, unfolding(crate::specs::Cores::is_plain_note_header))]
 fn is_plain_note_header(header: &ProgramHeader) -> bool
     ensures { result ≡ is_plain_note_header header.now }
 {
-    header.kind == NOTE && header.offset == 176 && header.file_size == 120
+    header.kind == PT_NOTE
+        && header.offset == MACHINE_NOTE as u64
+        && header.file_size == (NOTES_END - MACHINE_NOTE) as u64
 }
 
+/// Whether paging has 4 levels, and none of the protections and maskings that need more than the walk.
 #[tactic(auto, unfolding(crate::specs::Cores::is_plain_state))]
 fn is_plain_state(regs: &Regs) -> bool
     ensures { result ≡ is_plain_state regs.now }
@@ -93,15 +99,17 @@ fn is_plain_state(regs: &Regs) -> bool
         || bit(regs.cr3, CR3_LAM_U48))
 }
 
+/// Whether a processor is that of a plain core.
 fn is_plain_processor(processor: &Processor) -> bool
     ensures { result ≡ is_plain_processor processor.now }
 {
     processor.number == 0 && is_plain_state(&processor.regs)
 }
 
+/// The parts of a plain core, each at its place.
 #[tactic(auto, unfolding(crate::specs::Cores::plain_core, crate::specs::Cores::core_in_place))]
 fn plain_core(bytes: &[u8]) -> Option<Plain<'_>>
-    ensures value { option_map (λ plain. core_with (extent plain.segment) plain.machine plain.processor) result ≡ plain_core bytes.now }
+    ensures value { option_map stated_core result ≡ plain_core bytes.now }
     ensures placed { IfSome result (λ plain. IsPlaced (extent plain.segment)) }
 {
     if !is_plain_file(bytes) || !is_plain_note_header(&program_header_at(bytes, NOTE_HEADER)) {
@@ -123,7 +131,7 @@ fn plain_core(bytes: &[u8]) -> Option<Plain<'_>>
 /// The core of its parts.
 fn core_with<'a>(alloc: Global, plain: Plain<'a>) -> Result<Core<'a>, AllocError>
     requires { IsPlaced (extent plain.segment) }
-    ensures { IfOk result (λ core. core ≡ core_with (extent plain.entry.segment) plain.entry.machine plain.entry.processor) }
+    ensures { IfOk result (λ core. core ≡ stated_core plain.entry) }
 {
     let segments = vec![in alloc; plain.segment]?;
     let processors = vec![in alloc; plain.processor]?;

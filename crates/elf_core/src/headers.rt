@@ -13,6 +13,31 @@ use crate::segments::Segment;
 pub const FILE_HEADER_SIZE: usize = 64;
 /// The bytes of one program header.
 pub const PROGRAM_HEADER_SIZE: usize = 56;
+
+// The places of the file header's fields.
+const EI_CLASS: usize = 4;
+
+const EI_DATA: usize = 5;
+
+const E_TYPE: usize = 16;
+
+const E_MACHINE: usize = 18;
+/// The place of the field that tells where the program headers begin, of 8 bytes.
+pub const E_PHOFF: usize = 32;
+/// The place of the field that tells the size of one program header, of 2 bytes.
+pub const E_PHENTSIZE: usize = 54;
+/// The place of the field that tells how many program headers there are, of 2 bytes.
+pub const E_PHNUM: usize = 56;
+
+// The places of a program header's fields, from its start.
+const P_TYPE: usize = 0;
+
+const P_OFFSET: usize = 8;
+
+const P_PADDR: usize = 24;
+
+const P_FILESZ: usize = 32;
+
 /// The first bytes of every ELF file.
 const MAGIC: [u8; 4] = *b"\x7fELF";
 /// The 64-bit class.
@@ -24,7 +49,9 @@ const TYPE_CORE: u16 = 4;
 /// e_machine of x86-64.
 const MACHINE_X86_64: u16 = 62;
 /// p_type of memory.
-const LOAD: u32 = 1;
+pub const PT_LOAD: u32 = 1;
+/// p_type of notes.
+pub const PT_NOTE: u32 = 4;
 /// p_paddr where there is no physical address.
 const NO_ADDRESS: u64 = u64::MAX;
 /// The end of physical memory at the greatest width.
@@ -49,10 +76,10 @@ pub fn is_core(bytes: &[u8]) -> bool
     ensures { result ≡ is_core bytes.now }
 {
     bytes.starts_with(&MAGIC)
-        && bytes[4] == CLASS_64
-        && bytes[5] == LITTLE_ENDIAN
-        && half_at(bytes, 16) == TYPE_CORE
-        && half_at(bytes, 18) == MACHINE_X86_64
+        && bytes[EI_CLASS] == CLASS_64
+        && bytes[EI_DATA] == LITTLE_ENDIAN
+        && half_at(bytes, E_TYPE) == TYPE_CORE
+        && half_at(bytes, E_MACHINE) == MACHINE_X86_64
 }
 
 /// Reads the program header at a place.
@@ -61,10 +88,10 @@ pub fn program_header_at(bytes: &[u8], place: usize) -> ProgramHeader
     ensures { result ≡ program_header_at bytes.now place }
 {
     ProgramHeader {
-        kind: word_at(bytes, place),
-        offset: xword_at(bytes, place + 8),
-        physical: xword_at(bytes, place + 24),
-        file_size: xword_at(bytes, place + 32),
+        kind: word_at(bytes, place + P_TYPE),
+        offset: xword_at(bytes, place + P_OFFSET),
+        physical: xword_at(bytes, place + P_PADDR),
+        file_size: xword_at(bytes, place + P_FILESZ),
     }
 }
 
@@ -97,7 +124,7 @@ impl ProgramHeader {
         ensures value { option_map extent result ≡ segment_of bytes.now self.now }
         ensures placed { IfSome result (λ segment. IsPlaced (extent segment)) }
     {
-        if self.kind != LOAD || self.is_passed_over() {
+        if self.kind != PT_LOAD || self.is_passed_over() {
             return None;
         }
         if !self.is_in_file(bytes) || !self.is_below_the_width() {

@@ -12,8 +12,22 @@ use proc_regs::{Machine, Regs, check};
 
 /// The owner of state notes.
 const OWNER: [u8; 10] = *b"X86RIGHTS\0";
+
+const OWNER_SIZE: u32 = 10;
 /// The bytes of a note ahead of its description: three sizes and the owner's name, padded to a multiple of 4.
-const HEAD: usize = 24;
+const HEAD_SIZE: usize = 24;
+/// The type of the note of the machine, and the bytes of its description.
+const MACHINE_TYPE: u32 = 1;
+
+const MACHINE_SIZE: u32 = 8;
+/// The bytes of the whole note of the machine.
+pub const MACHINE_NOTE_SIZE: usize = HEAD_SIZE + MACHINE_SIZE as usize;
+/// The type of a processor's note, and the bytes of its description.
+const PROCESSOR_TYPE: u32 = 2;
+
+const PROCESSOR_SIZE: u32 = 64;
+/// The bytes of a processor's whole note.
+pub const PROCESSOR_NOTE_SIZE: usize = HEAD_SIZE + PROCESSOR_SIZE as usize;
 
 /// Whether a state note of a type, with a description of a size, stands at a place.
 #[tactic(auto, unfolding(crate::specs::StateNotes::is_state_note))]
@@ -21,7 +35,7 @@ fn is_state_note(kind: u32, size: u32, bytes: &[u8], place: usize) -> bool
     requires { place + 24 ≤ length bytes.now }
     ensures { result ≡ is_state_note kind size bytes.now place }
 {
-    word_at(bytes, place) == 10
+    word_at(bytes, place) == OWNER_SIZE
         && word_at(bytes, place + 4) == size
         && word_at(bytes, place + 8) == kind
         && bytes[place + 12..].starts_with(&OWNER)
@@ -52,10 +66,10 @@ pub fn machine_note(bytes: &[u8], place: usize) -> Option<Machine>
     requires { place + 32 ≤ length bytes.now }
     ensures { result ≡ machine_note bytes.now place }
 {
-    if !is_state_note(1, 8, bytes, place) {
+    if !is_state_note(MACHINE_TYPE, MACHINE_SIZE, bytes, place) {
         return None;
     }
-    let description = place + HEAD;
+    let description = place + HEAD_SIZE;
     machine_stated(word_at(bytes, description), word_at(bytes, description + 4))
 }
 
@@ -104,8 +118,8 @@ pub fn processor_note(machine: &Machine, bytes: &[u8], place: usize) -> Option<P
     requires { place + 88 ≤ length bytes.now }
     ensures { result ≡ processor_note machine.now bytes.now place }
 {
-    if !is_state_note(2, 64, bytes, place) {
+    if !is_state_note(PROCESSOR_TYPE, PROCESSOR_SIZE, bytes, place) {
         return None;
     }
-    processor_stated(machine, bytes, place + HEAD)
+    processor_stated(machine, bytes, place + HEAD_SIZE)
 }

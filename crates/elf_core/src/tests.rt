@@ -253,7 +253,7 @@ fn tells_short_files(rt: HostRuntime) -> Result<(), Fail> {
 fn says_why(rt: HostRuntime) -> Result<(), Fail> {
     assert_eq!(rt;
         CoreFault::NotBuilt.to_string(rt.alloc())?.as_str(),
-        "not a plain core"
+        "the file isn't a core of the one form that is read so far"
     );
     assert_eq!(rt;
         CoreFault::Memory.to_string(rt.alloc())?.as_str(),

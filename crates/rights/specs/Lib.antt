@@ -1,6 +1,7 @@
 pub mod BuiltWalks
 pub mod Ends
 pub mod FixedTexts
+pub mod Forms
 pub mod Partway
 pub mod Replies
 pub mod Run

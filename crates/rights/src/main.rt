@@ -6,8 +6,10 @@ mod lines;
 mod logs;
 mod numbers;
 mod replies;
+mod runs;
 mod session;
 mod texts;
 mod walks;
+mod words;
 
 fn main() {}

@@ -1,7 +1,7 @@
 use Rattle.std.proofs.Common.{◌≡◌, Ok, rules}
 use Rattle.std.specs.Prelude.{IfOk}
 use Rattle.std.proofs.lemmas.Result.{IfOk-weaker}
-use Rattle.elf_core.specs.Cores.{core_of, HasOneProcessor}
+use Rattle.elf_core.specs.Cores.{core_of}
 use Rattle.elf_core.proofs.PlainCores.{one_processor}
 use Rattle.elf_core.proofs.core_file.parse.Goals as goal
 
