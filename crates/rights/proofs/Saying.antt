@@ -81,3 +81,34 @@ nothing_left moment number = refl
 -- lines before other lines
 pub after-after : (front text : List (List ℕ)) (left : Outcome) → after front (after text left) ≡ after (front ++ text) left
 after-after front text left = let e : front ++ (text ++ left.lines) ≡ (front ++ text) ++ left.lines = sym (append_assoc front text left.lines) in rw e refl
+
+-- what is said of the rest is said once
+abbrev IsOnce : (History → Outcome → Type 0) → Type 0
+IsOnce Rest = (moment : History) (one other : Outcome) → Rest moment one → Rest moment other → one ≡ other
+
+event_once : (Rest : History → Outcome → Type 0) (moment : History) (number : ℕ) (event : Event) (refusal : Option Cause) (one other : Outcome) → IsOnce Rest
+    → SaysEvent Rest moment number event refusal one → SaysEvent Rest moment number event refusal other → one ≡ other
+event_once Rest moment number event (Some cause) one other once says said = says ∙ sym said
+event_once Rest moment number event None one other once says said =
+    let same : says.0 ≡ said.0 = answer_once moment event says.0 said.0 says.2 said.2 in
+    let rest : says.1 ≡ said.1 = once (next moment event) says.1 said.1 says.3 said.3 in
+    says.4 ∙ ap (λ (a : Answer). after (answer_lines a) says.1) same ∙ ap (λ (o : Outcome). after (answer_lines said.0) o) rest ∙ sym said.4
+
+line_once : (Rest : History → Outcome → Type 0) (moment : History) (number : ℕ) (spelled : Result (Option Event) Cause) (one other : Outcome) → IsOnce Rest
+    → SaysLine Rest moment number spelled one → SaysLine Rest moment number spelled other → one ≡ other
+line_once Rest moment number (Ok None) one other once says said = once moment one other says said
+line_once Rest moment number (Ok (Some event)) one other once says said =
+    event_once Rest moment number event (refusal moment event) one other once says said
+line_once Rest moment number (Err cause) one other once says said = says ∙ sym said
+
+only_end : (moment : History) (number : ℕ) (said : Outcome) → Says moment number [] said → said ≡ ended
+unfolding Says
+only_end moment number said says = says
+
+-- lines have one outcome
+pub says_once : (lines : List (List ℕ)) (moment : History) (number : ℕ) (one other : Outcome) → Says moment number lines one → Says moment number lines other → one ≡ other
+says_once [] moment number one other says said = only_end moment number one says ∙ sym (only_end moment number other said)
+says_once (line ∷ rest) moment number one other says said =
+    line_once (λ later left. Says later (number + 1) rest left) moment (number + 1) (event_of line) one other
+        (λ later a b sa sb. says_once rest later (number + 1) a b sa sb)
+        (says-line moment number line rest one says) (says-line moment number line rest other said)

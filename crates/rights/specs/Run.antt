@@ -77,6 +77,11 @@ pub record Answers (core_told log_told : Told) (before now : Option (List (List 
   pub log_is : IsAccepted core → MayBe log_told log
   pub ends : Ends (IsOutcome core log) before now status
 
+-- reads of the core failed, or the core is accepted and reads of the log failed
+abbrev pub FailedToRead : Told → Type 0 → Type 0 → Type 0
+FailedToRead core_told CoreFailed LogFailed =
+    CoreFailed ⊎ (LogFailed × ((core : List ℕ) × MayBe core_told core × IsAccepted core))
+
 -- the program's exit status is that of an end that is so
 abbrev pub EndsWith : ℕ → (Status → Type 0) → Type 0
 EndsWith code Is = (status : Status) × (code ≡ code_of status) × Is status

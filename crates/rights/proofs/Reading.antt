@@ -1,0 +1,98 @@
+-- What was read of a core and a log, and the outcome that it has.
+use Rattle.std.proofs.Common.{◌≡◌, ℕ, ◌+◌, ◌≤◌, List, [], ◌∷◌, ◌++◌, refl, arith, ap, sym, ◌∙◌, subst, length, take}
+use Rattle.std.proofs.lemmas.Grind.{common_steps}
+use Rattle.std.proofs.lemmas.Bool.Decides.{nat_tests}
+use Rattle.std.specs.Prelude.{Bool, true, false, IsTrue, Option, nat_lt, MatchBool, Result, Ok, Err, IsOk}
+use Rattle.outside.specs.Shelf.{Told, untold, missing, holds}
+use Rattle.outside.specs.Whole.{IsWhole}
+use Rattle.elf_core.specs.Cores.{core_of}
+use Rattle.elf_core.specs.declared.core_file.Core.{Core}
+use Rattle.elf_core.specs.declared.core_file.CoreFault.{CoreFault}
+use Rattle.history_model.specs.History.{History, begun}
+use Rattle.history_model.specs.Log.{lines_of}
+use Rattle.history_model.specs.Outcome.{Outcome, Says}
+use Rattle.history_model.specs.declared.statuses.Status.{Status}
+use Rattle.history_model.specs.declared.statuses.Status.TheVariants.{CoreRefused, LogRefused}
+use Rattle.rights.specs.FixedTexts.{core_too_long_line, core_refusal_line, log_refusal_line}
+use Rattle.rights.specs.Standing.{start_of}
+use Rattle.rights.specs.Ends.{Ends, one_line}
+use Rattle.rights.specs.Run.{core_limit, log_limit, IsLogOutcome, IsOutcomeBy, IsOutcome, IsAccepted, MayBe}
+
+abbrev Pieces : Type 0
+Pieces = Option (List (List ℕ))
+
+-- the bytes that may stand under a name of which more than the limit is there
+pub record IsPast (told : Told) (limit : ℕ) : Type 0 where
+  pub content : List ℕ
+  pub may_be : MayBe told content
+  pub past : nat_lt limit (length content) ≡ true
+
+pub read_past : (told : Told) (limit len : ℕ) (bytes : List ℕ) (cut : Bool) → len ≡ length bytes → ((content : List ℕ) → told ≡ holds content → IsWhole content limit bytes cut)
+    → (told ≡ missing → false ≡ true) → (IsTrue cut → len ≡ limit) → cut ≡ true → IsPast told limit
+read_past untold limit len bytes cut len_is whole known full is = record {
+  content = bytes ++ 0 ∷ [];
+  may_be = tt;
+  past = let all : length bytes ≡ limit = sym len_is ∙ full is in grind (arith, nat_tests, common_steps)
+}
+read_past missing limit len bytes cut len_is whole known full is = absurd (let never : false ≡ true = known refl in cc)
+read_past (holds content) limit len bytes cut len_is whole known full is =
+    record { content = content; may_be = refl; past = sym (whole content refl).cut_is ∙ is }
+
+-- the bytes that were read are all that stand under the name
+pub record IsRead (told : Told) (limit : ℕ) (bytes : List ℕ) : Type 0 where
+  pub may_be : MayBe told bytes
+  pub within : nat_lt limit (length bytes) ≡ false
+
+uncut : (content bytes : List ℕ) (limit : ℕ) → bytes ≡ take limit content → nat_lt limit (length content) ≡ false → bytes ≡ content
+uncut content bytes limit is within = grind (arith, nat_tests, common_steps)
+
+pub read_within : (told : Told) (limit len : ℕ) (bytes : List ℕ) (cut : Bool) → len ≡ length bytes → ((content : List ℕ) → told ≡ holds content → IsWhole content limit bytes cut)
+    → (told ≡ missing → false ≡ true) → len ≤ limit → cut ≡ false → IsRead told limit bytes
+read_within untold limit len bytes cut len_is whole known bound is = record { may_be = tt; within = grind (arith, nat_tests) }
+read_within missing limit len bytes cut len_is whole known bound is = absurd (let never : false ≡ true = known refl in cc)
+read_within (holds content) limit len bytes cut len_is whole known bound is =
+    let short : nat_lt limit (length content) ≡ false = sym (whole content refl).cut_is ∙ is in
+    record { may_be = uncut content bytes limit (whole content refl).bytes_are short; within = grind (arith, nat_tests) }
+
+-- a log over its limit
+pub log_past : (start : History) (log : List ℕ) (before now : Pieces) (status : Status) → nat_lt log_limit (length log) ≡ true
+    → Ends (λ outcome. outcome ≡ one_line log_refusal_line LogRefused) before now status → Ends (IsLogOutcome start log) before now status
+log_past start log before now status past ends =
+    subst (λ (b : Bool). Ends (λ outcome. MatchBool b (outcome ≡ one_line log_refusal_line LogRefused) (Says start 0 (lines_of log) outcome)) before now status) (sym past) ends
+
+pub log_within : (start : History) (log : List ℕ) (before now : Pieces) (status : Status) → nat_lt log_limit (length log) ≡ false
+    → Ends (Says start 0 (lines_of log)) before now status → Ends (IsLogOutcome start log) before now status
+log_within start log before now status within ends =
+    subst (λ (b : Bool). Ends (λ outcome. MatchBool b (outcome ≡ one_line log_refusal_line LogRefused) (Says start 0 (lines_of log) outcome)) before now status) (sym within) ends
+
+-- a core over its limit
+pub core_past : (core log : List ℕ) (before now : Pieces) (status : Status) → nat_lt core_limit (length core) ≡ true
+    → Ends (λ outcome. outcome ≡ one_line core_too_long_line CoreRefused) before now status → Ends (IsOutcome core log) before now status
+core_past core log before now status past ends =
+    subst (λ (b : Bool). Ends (λ outcome. MatchBool b (outcome ≡ one_line core_too_long_line CoreRefused) (IsOutcomeBy (core_of core) log outcome)) before now status) (sym past) ends
+
+core_within : (core log : List ℕ) (before now : Pieces) (status : Status) (read : Result Core CoreFault) → nat_lt core_limit (length core) ≡ false → core_of core ≡ read
+    → Ends (IsOutcomeBy read log) before now status → Ends (IsOutcome core log) before now status
+core_within core log before now status read within is ends =
+    let by_core : Ends (IsOutcomeBy (core_of core) log) before now status = subst (λ (r : Result Core CoreFault). Ends (IsOutcomeBy r log) before now status) (sym is) ends in
+    subst (λ (b : Bool). Ends (λ outcome. MatchBool b (outcome ≡ one_line core_too_long_line CoreRefused) (IsOutcomeBy (core_of core) log outcome)) before now status) (sym within) by_core
+
+-- a core that is refused
+pub core_refused : (core log : List ℕ) (before now : Pieces) (status : Status) (fault : CoreFault) → nat_lt core_limit (length core) ≡ false → core_of core ≡ Err fault
+    → Ends (λ outcome. outcome ≡ one_line core_refusal_line CoreRefused) before now status → Ends (IsOutcome core log) before now status
+core_refused core log before now status fault within is ends = core_within core log before now status (Err fault) within is ends
+
+-- a core that is read
+pub core_read : (core log : List ℕ) (before now : Pieces) (status : Status) (read : Core) → nat_lt core_limit (length core) ≡ false → core_of core ≡ Ok read
+    → Ends (IsLogOutcome (begun (start_of read)) log) before now status → Ends (IsOutcome core log) before now status
+core_read core log before now status read within is ends = core_within core log before now status (Ok read) within is ends
+
+-- a core over its limit, or one that is refused, isn't accepted
+pub past_accepted : (core : List ℕ) → nat_lt core_limit (length core) ≡ true → IsAccepted core → ⊥
+past_accepted core past accepted = let both : true ≡ false = sym past ∙ accepted.within in cc
+
+pub refused_accepted : (core : List ℕ) (fault : CoreFault) → core_of core ≡ Err fault → IsAccepted core → ⊥
+refused_accepted core fault is accepted = let never : false ≡ true = rw is at accepted.read in cc
+
+pub accepted : (core : List ℕ) (read : Core) → nat_lt core_limit (length core) ≡ false → core_of core ≡ Ok read → IsAccepted core
+accepted core read within is = record { within = within; read = rw is refl }
