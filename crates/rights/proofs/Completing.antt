@@ -1,5 +1,5 @@
 -- A run in which nothing failed writes the one outcome of its core and its log.
-use Rattle.std.proofs.Common.{◌≡◌, ◌≢◌, ℕ, List, [], ◌∷◌, refl, ap, sym, ◌∙◌, subst, length, inl, inr}
+use Rattle.std.proofs.Common.{◌≡◌, ℕ, List, refl, ap, sym, ◌∙◌, subst, length, inl, inr}
 use Rattle.std.specs.Prelude.{Bool, true, false, nat_lt, MatchBool, Option, Result, Ok, Err, IsOk, ◌⊎◌}
 use Rattle.outside.specs.Shelf.{Told, holds}
 use Rattle.elf_core.specs.Cores.{core_of}
@@ -11,7 +11,7 @@ use Rattle.history_model.specs.Outcome.{Outcome, Says}
 use Rattle.history_model.specs.Statuses.{code_of}
 use Rattle.history_model.specs.declared.statuses.Status.{Status}
 use Rattle.history_model.specs.declared.statuses.Status.TheVariants.{Answered, Usage, CoreRefused, LogRefused, ReadFailed, WriteFailed, OutOfMemory}
-use Rattle.rights.specs.FixedTexts.{core_too_long_line, core_refusal_line, log_refusal_line}
+use Rattle.rights.specs.FixedTexts.{core_too_long_line, log_refusal_line}
 use Rattle.rights.specs.Standing.{start_of}
 use Rattle.rights.specs.Ends.{Ends, Adds, one_line, after_put}
 use Rattle.rights.specs.Run.{core_limit, log_limit, IsLogOutcome, IsOutcomeBy, IsOutcome, IsAccepted, MayBe, IsUnread, Answers}
@@ -87,7 +87,7 @@ answers_whole core_told log_told core_bytes log_bytes before now status code out
     let same_core : answers.core ≡ core_bytes = may_be_held core_told core_bytes answers.core core_is answers.core_is in
     let same_log : IsAccepted answers.core → answers.log ≡ log_bytes = λ (taken : IsAccepted answers.core). may_be_held log_told log_bytes answers.log log_is (answers.log_is taken) in
     ends_whole answers.core answers.log log_bytes before now status code outcome same_log code_is
-        (subst (λ (c : List ℕ). IsOutcome c log_bytes outcome) (sym same_core) is) read written answers.ends
+    (subst (λ (c : List ℕ). IsOutcome c log_bytes outcome) (sym same_core) is) read written answers.ends
 
 -- nothing failed
 pub complete : (core_told log_told : Told) (core_bytes log_bytes : List ℕ) (before now : Pieces) (status : Status) (code : ℕ) (outcome : Outcome)
@@ -96,9 +96,10 @@ pub complete : (core_told log_told : Told) (core_bytes log_bytes : List ℕ) (be
     → IsUnread before now status ⊎ Answers core_told log_told before now status
     → ((code ≡ code_of outcome.status) × Adds before now outcome.lines) ⊎ (code ≡ code_of OutOfMemory)
 complete core_told log_told core_bytes log_bytes before now status code outcome core_is log_is is code_is read written ends =
-    elim ends
-    [ inl unread ↦ elim unread.why [ inl failed ↦ absurd (read failed) | inr wanted ↦ inr (code_is ∙ ap code_of wanted) ]
-    | inr answers ↦ answers_whole core_told log_told core_bytes log_bytes before now status code outcome core_is log_is is code_is read written answers ]
+    elim ends [
+      | inl unread ↦ elim unread.why [ inl failed ↦ absurd (read failed) | inr wanted ↦ inr (code_is ∙ ap code_of wanted) ]
+      | inr answers ↦ answers_whole core_told log_told core_bytes log_bytes before now status code outcome core_is log_is is code_is read written answers
+    ]
 
 pub after_put-among : {E : Type 0} (result : Result (Unit {0}) E) (status : Status) → (after_put result status ≡ status) ⊎ (after_put result status ≡ WriteFailed)
 after_put-among (Ok done) status = inl refl

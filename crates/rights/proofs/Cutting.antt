@@ -1,8 +1,8 @@
 -- A list cut at the first place of a separator.
-use Rattle.std.proofs.Common.{◌≡◌, ◌≢◌, ℕ, zero, suc, ◌+◌, ◌-◌, ◌<◌, ◌≤◌, List, [], ◌∷◌, ◌++◌, refl, arith, ap, sym, ◌∙◌, take, drop, length, get_or}
+use Rattle.std.proofs.Common.{◌≡◌, ◌≢◌, ℕ, ◌+◌, ◌-◌, ◌<◌, List, [], ◌∷◌, ◌++◌, refl, arith, ap, ◌∙◌, take, drop, length, get_or}
 use Rattle.std.proofs.lemmas.Grind.{common_steps}
 use Rattle.std.proofs.lemmas.Bool.Decides.{nat_tests}
-use Rattle.std.specs.Prelude.{All, true, false, Bool, ◌==◌, if◌then◌else◌}
+use Rattle.std.specs.Prelude.{All, true, false, ◌==◌, if◌then◌else◌}
 use Rattle.std.proofs.lemmas.List.Elements.{recursion_from_All}
 use Rattle.std.specs.List.{AllByRecursion}
 use Rattle.history_model.specs.Log.{lines_of, words_of, onto}
@@ -33,9 +33,10 @@ words_some : (line : List ℕ) → (word : List ℕ) × (rest : List (List ℕ))
 words_some [] = ([], [], refl)
 words_some (b ∷ line) =
     let more = words_some line in
-    elim (b == 32) as (λ space. (word : List ℕ) × (rest : List (List ℕ)) × ((if space then [] ∷ words_of line else onto b (words_of line)) ≡ word ∷ rest))
-    [ true ↦ ([], words_of line, refl)
-    | false ↦ (b ∷ more.0, more.1, rw more.2 refl) ]
+    elim (b == 32) as (λ space. (word : List ℕ) × (rest : List (List ℕ)) × ((if space then [] ∷ words_of line else onto b (words_of line)) ≡ word ∷ rest)) [
+      | true ↦ ([], words_of line, refl)
+      | false ↦ (b ∷ more.0, more.1, rw more.2 refl)
+    ]
 
 pub more_words : (line word rest : List ℕ) → words_of line ≡ word ∷ words_of rest → HasMoreWords line
 more_words line word rest is =

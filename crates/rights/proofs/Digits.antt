@@ -1,5 +1,5 @@
 -- The value of digits, one after another, while it is below 2 to the 64.
-use Rattle.std.proofs.Common.{rules, ◌≡◌, ℕ, zero, suc, ◌+◌, ◌*◌, ◌^◌, ◌<◌, ◌≤◌, List, [], ◌∷◌, refl, arith, ap, sym, ◌∙◌}
+use Rattle.std.proofs.Common.{rules, ◌≡◌, ℕ, zero, suc, ◌+◌, ◌*◌, ◌^◌, ◌<◌, ◌≤◌, List, [], ◌∷◌, refl, arith, sym}
 use Rattle.std.proofs.lemmas.Bool.Decides.{nat_tests}
 use Rattle.std.specs.Prelude.{Option, Some, None, option_and_then}
 use Rattle.history_model.specs.Numbers.{value_behind, fitting}
@@ -14,9 +14,10 @@ pub past-fitting : (digit : ℕ → Option ℕ) (radix value : ℕ) (rest : List
     → option_and_then fitting (value_behind digit radix value rest) ≡ None
 past-fitting digit radix value [] some past = grind (arith, nat_tests)
 past-fitting digit radix value (c ∷ rest) some past =
-    elim (digit c) as (λ o. option_and_then fitting (option_and_then (λ d. value_behind digit radix (value * radix + d) rest) o) ≡ None)
-    [ None ↦ refl
-    | Some d ↦ past-fitting digit radix (value * radix + d) rest some (past-digit radix value d some past) ]
+    elim (digit c) as (λ o. option_and_then fitting (option_and_then (λ d. value_behind digit radix (value * radix + d) rest) o) ≡ None) [
+      | None ↦ refl
+      | Some d ↦ past-fitting digit radix (value * radix + d) rest some (past-digit radix value d some past)
+    ]
 
 -- the next digit takes the value past the limit
 pub past_limit : (digit : ℕ → Option ℕ) (radix value d c : ℕ) (rest all : List ℕ) → 0 < radix

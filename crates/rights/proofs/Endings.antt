@@ -10,7 +10,7 @@ use Rattle.history_model.specs.declared.events.Cause.{Cause}
 use Rattle.history_model.specs.declared.statuses.Status.{Status}
 use Rattle.history_model.specs.declared.statuses.Status.TheVariants.{Answered, Usage, CoreRefused, LogRefused, ReadFailed, WriteFailed, OutOfMemory}
 use Rattle.rights.specs.Standing.{Holding, StandsFor}
-use Rattle.rights.specs.Ends.{Adds, Cuts, AddsCut, AddsLeading, Ends, one_line, after_put}
+use Rattle.rights.specs.Ends.{Adds, AddsCut, Ends, one_line, after_put}
 use Rattle.rights.specs.Replies.{IsAnswer, Refuses}
 use Rattle.rights.specs.Partway.{Partway}
 use Rattle.rights.proofs.Saying.{skips, skipped, answers, answered, refuses, refused_only, nothing_left, after-after}
@@ -38,24 +38,31 @@ puts-line E (Some pieces) now line puts = puts.1 ∙ ap Some puts.2
 cuts-behind : (before now later : Pieces) (front lines : List (List ℕ)) → Adds before now front → AddsCut now later lines → AddsCut before later (front ++ lines)
 cuts-behind None now later front lines adds cut = subst (λ (o : Pieces). AddsCut o later lines) adds cut
 cuts-behind (Some pieces) now later front lines adds cut =
-    let told : AddsCut (Some (pieces ++ front)) later lines = subst (λ (o : Pieces). AddsCut o later lines) adds cut in
-    (told.0, told.1, record {
-      whole = front ++ told.2.whole;
-      line = told.2.line;
-      more = told.2.more;
-      lines_are = ap (λ ls. front ++ ls) told.2.lines_are ∙ sym (append_assoc front told.2.whole (told.2.line ∷ told.2.more));
-      puts = subst (λ (ps : List (List ℕ)). PutsFront ps told.0 told.2.line) (append_assoc pieces front told.2.whole) told.2.puts
-    })
+    let told : AddsCut (Some (pieces ++ front)) later lines = subst (λ (o : Pieces). AddsCut o later lines) adds cut in (
+      told.0,
+      told.1,
+      record {
+        whole = front ++ told.2.whole;
+        line = told.2.line;
+        more = told.2.more;
+        lines_are = ap (λ ls. front ++ ls) told.2.lines_are ∙ sym (append_assoc front told.2.whole (told.2.line ∷ told.2.more));
+        puts = subst (λ (ps : List (List ℕ)). PutsFront ps told.0 told.2.line) (append_assoc pieces front told.2.whole) told.2.puts;
+      },
+    )
 
 pub puts-cut : {E : Type 0} (error : E) (before now : Pieces) (line : List ℕ) (more : List (List ℕ)) → Puts {E = E} before now (Err error) line → AddsCut before now (line ∷ more)
 puts-cut error None now line more puts = puts
-puts-cut error (Some pieces) now line more puts = (puts.0, puts.1, record {
-  whole = [];
-  line = line;
-  more = more;
-  lines_are = refl;
-  puts = subst (λ (ps : List (List ℕ)). PutsFront ps puts.0 line) (sym (append-nil pieces)) puts.2
-})
+puts-cut error (Some pieces) now line more puts = (
+  puts.0,
+  puts.1,
+  record {
+    whole = [];
+    line = line;
+    more = more;
+    lines_are = refl;
+    puts = subst (λ (ps : List (List ℕ)). PutsFront ps puts.0 line) (sym (append-nil pieces)) puts.2;
+  },
+)
 
 -- the same by a test of what the put answered
 pub puts-good : (E : Type 0) (before now : Pieces) (line : List ℕ) (result : Result (Unit {0}) E) → is_err result ≡ false → Puts before now result line
@@ -91,7 +98,7 @@ partway-start start log holding before stands = record {
   front = [];
   adds = adds-none before;
   whole = λ left says. says;
-  parts = λ outcome says. (outcome, says, refl)
+  parts = λ outcome says. (outcome, says, refl);
 }
 
 -- a line without an event is passed over
@@ -103,7 +110,7 @@ partway-skip start log holding before now number line rest none so_far = record 
   front = so_far.front;
   adds = so_far.adds;
   whole = λ left says. so_far.whole left (skips so_far.moment number line rest left none says);
-  parts = λ outcome says. let told = so_far.parts outcome says in (told.0, skipped so_far.moment number line rest told.0 none told.1, told.2)
+  parts = λ outcome says. let told = so_far.parts outcome says in (told.0, skipped so_far.moment number line rest told.0 none told.1, told.2);
 }
 
 -- an answer was put
@@ -117,23 +124,28 @@ partway-answer start log holding before now later number line text rest so_far i
   adds = adds-more before now later so_far.front (text ∷ []) so_far.adds adds;
   whole = λ left says.
       subst (λ (o : Outcome). Says start 0 log o)
-          (ap (λ ls. after so_far.front (after ls left)) is.lines ∙ after-after so_far.front (text ∷ []) left)
-          (so_far.whole (after (answer_lines is.answer) left) (answers so_far.moment number line rest is.event is.answer left is.spelled is.accepted is.answers says));
+      (ap (λ ls. after so_far.front (after ls left)) is.lines ∙ after-after so_far.front (text ∷ []) left)
+      (so_far.whole (after (answer_lines is.answer) left) (answers so_far.moment number line rest is.event is.answer left is.spelled is.accepted is.answers says));
   parts = λ outcome says.
       let told = so_far.parts outcome says in
-      let split = answered so_far.moment number line rest is.event is.answer told.0 is.spelled is.accepted is.answers told.1 in
-      (split.0, split.1,
+      let split = answered so_far.moment number line rest is.event is.answer told.0 is.spelled is.accepted is.answers told.1 in (
+        split.0,
+        split.1,
         told.2 ∙ ap (λ (o : Outcome). after so_far.front o) split.2 ∙ ap (λ ls. after so_far.front (after ls split.0)) is.lines
-        ∙ after-after so_far.front (text ∷ []) split.0)
+            ∙ after-after so_far.front (text ∷ []) split.0,
+      );
 }
 
 -- all lines were handled
 pub partway-end : (start : History) (log : List (List ℕ)) (holding : Holding) (before now : Pieces) (number : ℕ) (rest : List (List ℕ))
     → rest ≡ [] → Partway start log holding before now number rest → Ends (Says start 0 log) before now Answered
 partway-end start log holding before now number rest none so_far =
-    let says : Says so_far.moment number rest ended = subst (λ (ls : List (List ℕ)). Says so_far.moment number ls ended) (sym none) (nothing_left so_far.moment number) in
-    (after so_far.front ended, so_far.whole ended says, refl,
-      subst (λ (ls : List (List ℕ)). Adds before now ls) (sym (append-nil so_far.front)) so_far.adds)
+    let says : Says so_far.moment number rest ended = subst (λ (ls : List (List ℕ)). Says so_far.moment number ls ended) (sym none) (nothing_left so_far.moment number) in (
+      after so_far.front ended,
+      so_far.whole ended says,
+      refl,
+      subst (λ (ls : List (List ℕ)). Adds before now ls) (sym (append-nil so_far.front)) so_far.adds,
+    )
 
 -- memory was wanted
 pub partway-memory : (start : History) (log : List (List ℕ)) (holding : Holding) (before now : Pieces) (number : ℕ) (rest : List (List ℕ))
@@ -150,8 +162,8 @@ partway-cut start log holding before now later number line text rest so_far is c
     let told = so_far.parts outcome says in
     let split = answered so_far.moment number line rest is.event is.answer told.0 is.spelled is.accepted is.answers told.1 in
     let lines_are : outcome.lines ≡ so_far.front ++ (text ∷ split.0.lines) =
-        ap (λ (o : Outcome). o.lines) told.2 ∙ ap (λ (o : Outcome). so_far.front ++ o.lines) split.2
-        ∙ ap (λ ls. so_far.front ++ (ls ++ split.0.lines)) is.lines in
+    ap (λ (o : Outcome). o.lines) told.2 ∙ ap (λ (o : Outcome). so_far.front ++ o.lines) split.2
+    ∙ ap (λ ls. so_far.front ++ (ls ++ split.0.lines)) is.lines in
     subst (λ (ls : List (List ℕ)). AddsCut before later ls) (sym lines_are) (cuts-behind before now later so_far.front _ so_far.adds (cut split.0.lines))
 
 -- a line is refused, by what the put of its refusal answered
@@ -166,5 +178,5 @@ partway-refusal start log holding before now later number line text rest (Err er
     let told = so_far.parts outcome says in
     let only = refused_only so_far.moment number line rest is.0 told.0 is.1 told.1 in
     let lines_are : outcome.lines ≡ so_far.front ++ (text ∷ []) =
-        ap (λ (o : Outcome). o.lines) told.2 ∙ ap (λ (o : Outcome). so_far.front ++ o.lines) only ∙ ap (λ (t : List ℕ). so_far.front ++ (t ∷ [])) (sym is.2) in
+    ap (λ (o : Outcome). o.lines) told.2 ∙ ap (λ (o : Outcome). so_far.front ++ o.lines) only ∙ ap (λ (t : List ℕ). so_far.front ++ (t ∷ [])) (sym is.2) in
     subst (λ (ls : List (List ℕ)). AddsCut before later ls) (sym lines_are) (cuts-behind before now later so_far.front _ so_far.adds (puts-cut error now later text [] puts))

@@ -1,17 +1,16 @@
 -- One step of a walk that meets plain entries alone.
-use Rattle.std.proofs.Common.{◌≡◌, ◌≢◌, ℕ, zero, suc, ◌+◌, ◌-◌, ◌*◌, ◌<◌, refl, arith, Option, Some, None, sym, ap, ◌∙◌}
+use Rattle.std.proofs.Common.{◌≡◌, ◌≢◌, ℕ, zero, suc, ◌-◌, ◌<◌, refl, arith, Some, None, sym, ap, ◌∙◌}
 use Rattle.std.proofs.lemmas.Bool.Decides.{nat_tests}
-use Rattle.std.specs.Prelude.{Bool, true, false, ◌==◌, ◌&&◌, ◌||◌, not, if◌then◌else◌, Result, Ok, Err}
+use Rattle.std.specs.Prelude.{Bool, true, false, ◌==◌, not, if◌then◌else◌, Result, Ok, Err}
 use Rattle.paging_model.specs.declared.registers.Settings.{Settings}
 use Rattle.paging_model.specs.declared.entries.Bits.{Bits}
 use Rattle.paging_model.specs.declared.entries.Entry.{Entry}
 use Rattle.paging_model.specs.declared.entries.Entry.TheVariants as entry
 use Rattle.paging_model.specs.declared.walks.Walk.{Walk}
 use Rattle.paging_model.specs.declared.walks.Walk.TheVariants.{Mapped, Unknown, Absent}
-use Rattle.paging_model.specs.BitRanges.{bit, some_bit}
 use Rattle.paging_model.specs.Memory.{Memory, entry_at}
-use Rattle.paging_model.specs.Entries.{entry_of, is_reserved, is_present, page_size, table_frame, bits_of, key_of, is_global, joined, page_size_is_reserved, some_low_frame_bit, page_frame, is_leaf}
-use Rattle.paging_model.specs.Walking.{walk_from, at_value, at_entry, entry_address, own_frame}
+use Rattle.paging_model.specs.Entries.{entry_of, is_reserved, is_present, table_frame, bits_of, key_of, is_global, joined, page_frame, is_leaf}
+use Rattle.paging_model.specs.Walking.{walk_from, at_entry, entry_address, own_frame}
 use Rattle.paging_model.proofs.WalkSteps.{walk_from-unknown, walk_from-entry, walk_from-end}
 use Rattle.history_model.specs.Asking.{meets_unplain, meets_at, is_plain}
 use Rattle.history_model.specs.declared.events.Cause.{Cause}
@@ -20,7 +19,7 @@ use Rattle.rights.specs.BuiltWalks.{built_from}
 
 meets-step : (memory : Memory) (settings : Settings) (x level table : ℕ) → 0 < level
     → meets_unplain memory settings x level table
-        ≡ meets_at (λ frame. meets_unplain memory settings x (level - 1) frame) settings level (entry_at memory (entry_address level table x))
+    ≡ meets_at (λ frame. meets_unplain memory settings x (level - 1) frame) settings level (entry_at memory (entry_address level table x))
 unfolding meets_unplain
 meets-step memory settings x zero table some = absurd (omega arith)
 meets-step memory settings x (suc lower) table some =
@@ -55,9 +54,10 @@ pub entry_of-plain : (settings : Settings) (level value : ℕ) → is_present va
 unfolding entry_of
 entry_of-plain settings level value present plain =
     rw (present, unreserved settings level value plain, leaf_at_1 settings level value plain)
-        (elim (level == 1) as (λ one. level == 1 ≡ one → (if one then entry.Leaf (page_frame level value) (bits_of value) (key_of value) (is_global value) else entry.Table (table_frame value) (bits_of value)) ≡ (if one then entry.Leaf (table_frame value) (bits_of value) (key_of value) (is_global value) else entry.Table (table_frame value) (bits_of value)))
-        [ true ↦ λ one. rw (plain_at_1 level value one) refl
-        | false ↦ λ one. refl ] refl)
+    (elim (level == 1) as (λ one. level == 1 ≡ one → (if one then entry.Leaf (page_frame level value) (bits_of value) (key_of value) (is_global value) else entry.Table (table_frame value) (bits_of value)) ≡ (if one then entry.Leaf (table_frame value) (bits_of value) (key_of value) (is_global value) else entry.Table (table_frame value) (bits_of value))) [
+      | true ↦ λ one. rw (plain_at_1 level value one) refl
+      | false ↦ λ one. refl
+    ] refl)
 
 -- the choice between a refusal and a walk, where it is known what is met
 abbrev ended_at : Walk → Result Walk Cause
@@ -82,7 +82,7 @@ pub built_from-unknown : (memory : Memory) (settings : Settings) (x level table 
 built_from-unknown memory settings x level table above place some place_is read =
     let unread : entry_at memory (entry_address level table x) ≡ None = rw (← place_is) (sym read) in
     let met : meets_unplain memory settings x level table ≡ false = meets-step memory settings x level table some
-        ∙ ap (meets_at (λ frame. meets_unplain memory settings x (level - 1) frame) settings level) unread in
+    ∙ ap (meets_at (λ frame. meets_unplain memory settings x (level - 1) frame) settings level) unread in
     built_is _ _ _ met (walk_from-unknown memory settings x level table above place some place_is read)
 
 absent_of : (settings : Settings) (level value : ℕ) → is_present value ≡ false → entry.Absent ≡ entry_of level settings value
@@ -119,10 +119,10 @@ none_below memory settings x level frame none = rw none refl
 
 left_at-plain : (memory : Memory) (settings : Settings) (x level : ℕ) (above : Bits) (value : ℕ) (one : Bool) → level == 1 ≡ one
     → (if meets_unplain memory settings x (level - 1) (table_frame value) then Err NotBuilt
-        else Ok (at_entry (λ frame bits. walk_from memory settings x (level - 1) frame bits) level x above
-            (if one then entry.Leaf (table_frame value) (bits_of value) (key_of value) (is_global value) else entry.Table (table_frame value) (bits_of value))))
-      ≡ left_at memory settings x level above
-            (if one then entry.Leaf (table_frame value) (bits_of value) (key_of value) (is_global value) else entry.Table (table_frame value) (bits_of value))
+    else Ok (at_entry (λ frame bits. walk_from memory settings x (level - 1) frame bits) level x above
+    (if one then entry.Leaf (table_frame value) (bits_of value) (key_of value) (is_global value) else entry.Table (table_frame value) (bits_of value))))
+    ≡ left_at memory settings x level above
+    (if one then entry.Leaf (table_frame value) (bits_of value) (key_of value) (is_global value) else entry.Table (table_frame value) (bits_of value))
 left_at-plain memory settings x level above value true one =
     let last : level - 1 ≡ 0 = grind (arith, nat_tests) in
     rw (none_below memory settings x (level - 1) (table_frame value) last) refl
@@ -136,7 +136,7 @@ pub built_from-entry : (memory : Memory) (settings : Settings) (x level table : 
 built_from-entry memory settings x level table above place value meaning some place_is read present plain means =
     let meaning_is : meaning ≡ plain_meaning level value = means ∙ entry_of-plain settings level value present plain in
     let met : meets_unplain memory settings x level table ≡ meets_unplain memory settings x (level - 1) (table_frame value) =
-        met_at memory settings x level table place value some place_is read ∙ rw (present, plain) refl in
+    met_at memory settings x level table place value some place_is read ∙ rw (present, plain) refl in
     let walked = walk_from-entry memory settings x level table above place value meaning some place_is read means in
     rw (met, walked, meaning_is) (left_at-plain memory settings x level above value (level == 1) refl)
 
@@ -150,6 +150,7 @@ built_from-end memory settings x level table above none =
 pub plain_maps : (settings : Settings) (level value : ℕ) (meaning : Entry) → is_present value ≡ true → is_plain level settings value ≡ true
     → meaning ≡ entry_of level settings value → (meaning ≢ entry.Absent) × (meaning ≢ entry.Reserved)
 plain_maps settings level value meaning present plain means =
-    elim (level == 1) as (λ one. meaning ≡ (if one then entry.Leaf (table_frame value) (bits_of value) (key_of value) (is_global value) else entry.Table (table_frame value) (bits_of value)) → (meaning ≢ entry.Absent) × (meaning ≢ entry.Reserved))
-    [ true ↦ λ is. ((λ absent. cc), (λ reserved. cc))
-    | false ↦ λ is. ((λ absent. cc), (λ reserved. cc)) ] (means ∙ entry_of-plain settings level value present plain)
+    elim (level == 1) as (λ one. meaning ≡ (if one then entry.Leaf (table_frame value) (bits_of value) (key_of value) (is_global value) else entry.Table (table_frame value) (bits_of value)) → (meaning ≢ entry.Absent) × (meaning ≢ entry.Reserved)) [
+      | true ↦ λ is. ((λ absent. cc), (λ reserved. cc))
+      | false ↦ λ is. ((λ absent. cc), (λ reserved. cc))
+    ] (means ∙ entry_of-plain settings level value present plain)

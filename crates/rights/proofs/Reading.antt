@@ -1,8 +1,8 @@
 -- What was read of a core and a log, and the outcome that it has.
-use Rattle.std.proofs.Common.{◌≡◌, ℕ, ◌+◌, ◌≤◌, List, [], ◌∷◌, ◌++◌, refl, arith, ap, sym, ◌∙◌, subst, length, take}
+use Rattle.std.proofs.Common.{◌≡◌, ℕ, ◌≤◌, List, [], ◌∷◌, ◌++◌, refl, arith, sym, ◌∙◌, subst, length, take}
 use Rattle.std.proofs.lemmas.Grind.{common_steps}
 use Rattle.std.proofs.lemmas.Bool.Decides.{nat_tests}
-use Rattle.std.specs.Prelude.{Bool, true, false, IsTrue, Option, nat_lt, MatchBool, Result, Ok, Err, IsOk}
+use Rattle.std.specs.Prelude.{Bool, true, false, IsTrue, Option, nat_lt, MatchBool, Result, Ok, Err}
 use Rattle.outside.specs.Shelf.{Told, untold, missing, holds}
 use Rattle.outside.specs.Whole.{IsWhole}
 use Rattle.elf_core.specs.Cores.{core_of}
@@ -10,7 +10,7 @@ use Rattle.elf_core.specs.declared.core_file.Core.{Core}
 use Rattle.elf_core.specs.declared.core_file.CoreFault.{CoreFault}
 use Rattle.history_model.specs.History.{History, begun}
 use Rattle.history_model.specs.Log.{lines_of}
-use Rattle.history_model.specs.Outcome.{Outcome, Says}
+use Rattle.history_model.specs.Outcome.{Says}
 use Rattle.history_model.specs.declared.statuses.Status.{Status}
 use Rattle.history_model.specs.declared.statuses.Status.TheVariants.{CoreRefused, LogRefused}
 use Rattle.rights.specs.FixedTexts.{core_too_long_line, core_refusal_line, log_refusal_line}
@@ -32,7 +32,7 @@ pub read_past : (told : Told) (limit len : ℕ) (bytes : List ℕ) (cut : Bool) 
 read_past untold limit len bytes cut len_is whole known full is = record {
   content = bytes ++ 0 ∷ [];
   may_be = tt;
-  past = let all : length bytes ≡ limit = sym len_is ∙ full is in grind (arith, nat_tests, common_steps)
+  past = let all : length bytes ≡ limit = sym len_is ∙ full is in grind (arith, nat_tests, common_steps);
 }
 read_past missing limit len bytes cut len_is whole known full is = absurd (let never : false ≡ true = known refl in cc)
 read_past (holds content) limit len bytes cut len_is whole known full is =

@@ -1,18 +1,16 @@
 -- What is said of the lines of a log, line by line.
-use Rattle.std.proofs.Common.{◌≡◌, ℕ, ◌+◌, List, [], ◌∷◌, ◌++◌, refl, ap, sym, ◌∙◌, append_assoc, subst}
-use Rattle.std.specs.Prelude.{Option, Some, None, Result, Ok, Err, ◌⊎◌}
+use Rattle.std.proofs.Common.{◌≡◌, ℕ, ◌+◌, List, [], ◌∷◌, ◌++◌, refl, ap, sym, ◌∙◌, append_assoc}
+use Rattle.std.specs.Prelude.{Option, Some, None, Result, Ok, Err}
 use Rattle.std.proofs.Common.{inl, inr}
-use Rattle.paging_model.specs.declared.registers.Regs.{Regs}
-use Rattle.history_model.specs.History.{History, next, regs}
+use Rattle.history_model.specs.History.{History, next}
 use Rattle.history_model.specs.LogLine.{event_of}
 use Rattle.history_model.specs.Asking.{Answers, refusal}
-use Rattle.history_model.specs.Texts.{answer_lines, line_refusal}
+use Rattle.history_model.specs.Texts.{answer_lines}
 use Rattle.history_model.specs.Outcome.{Outcome, after, ended, refused, Says, SaysLine, SaysEvent}
 use Rattle.history_model.specs.declared.events.Event.{Event}
 use Rattle.history_model.specs.declared.events.Event.TheVariants as event
 use Rattle.history_model.specs.declared.events.Cause.{Cause}
 use Rattle.history_model.specs.declared.answers.Answer.{Answer}
-use Rattle.history_model.specs.declared.statuses.Status.{Status}
 use Rattle.rights.specs.Replies.{Refuses}
 
 -- the rest of the lines in a later moment
@@ -64,14 +62,18 @@ answered moment number line rest event answer said spelled accepted is says =
 pub refuses : (moment : History) (number : ℕ) (line : List ℕ) (rest : List (List ℕ)) (cause : Cause)
     → Refuses moment line cause → Says moment number (line ∷ rest) (refused (number + 1) cause)
 refuses moment number line rest cause is =
-    elim is [ inl unspelled ↦ line-says moment number line rest _ (rw unspelled refl)
-            | inr spelled ↦ line-says moment number line rest _ (rw (spelled.1, spelled.2) refl) ]
+    elim is [
+      | inl unspelled ↦ line-says moment number line rest _ (rw unspelled refl)
+      | inr spelled ↦ line-says moment number line rest _ (rw (spelled.1, spelled.2) refl)
+    ]
 
 pub refused_only : (moment : History) (number : ℕ) (line : List ℕ) (rest : List (List ℕ)) (cause : Cause) (said : Outcome)
     → Refuses moment line cause → Says moment number (line ∷ rest) said → said ≡ refused (number + 1) cause
 refused_only moment number line rest cause said is says =
-    elim is [ inl unspelled ↦ rw unspelled at (says-line moment number line rest said says)
-            | inr spelled ↦ rw (spelled.1, spelled.2) at (says-line moment number line rest said says) ]
+    elim is [
+      | inl unspelled ↦ rw unspelled at (says-line moment number line rest said says)
+      | inr spelled ↦ rw (spelled.1, spelled.2) at (says-line moment number line rest said says)
+    ]
 
 -- nothing is said of no lines
 pub nothing_left : (moment : History) (number : ℕ) → Says moment number [] ended
@@ -110,5 +112,5 @@ pub says_once : (lines : List (List ℕ)) (moment : History) (number : ℕ) (one
 says_once [] moment number one other says said = only_end moment number one says ∙ sym (only_end moment number other said)
 says_once (line ∷ rest) moment number one other says said =
     line_once (λ later left. Says later (number + 1) rest left) moment (number + 1) (event_of line) one other
-        (λ later a b sa sb. says_once rest later (number + 1) a b sa sb)
-        (says-line moment number line rest one says) (says-line moment number line rest other said)
+    (λ later a b sa sb. says_once rest later (number + 1) a b sa sb)
+    (says-line moment number line rest one says) (says-line moment number line rest other said)

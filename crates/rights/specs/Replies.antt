@@ -1,5 +1,5 @@
 -- What is put for one line of a log.
-use Rattle.std.specs.Prelude.{◌≡◌, ◌⊎◌, ℕ, List, [], ◌∷◌, Option, Some, None, Result, Ok, Err}
+use Rattle.std.specs.Prelude.{◌≡◌, ◌⊎◌, ℕ, List, [], ◌∷◌, Some, None, Ok, Err}
 use Rattle.history_model.specs.History.{History, next}
 use Rattle.history_model.specs.LogLine.{event_of}
 use Rattle.history_model.specs.Asking.{Answers, refusal}

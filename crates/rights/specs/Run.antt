@@ -1,5 +1,5 @@
 -- What a run writes, by its words and by the bytes of the files that they name.
-use Rattle.std.specs.Prelude.{◌≡◌, ◌⊎◌, ℕ, List, [], ◌∷◌, length, map, Bool, nat_lt, MatchBool, Option, Some, None, Result, Ok, Err, IsOk, codes, false, ⊤, if◌then◌else◌}
+use Rattle.std.specs.Prelude.{◌≡◌, ◌⊎◌, ℕ, List, [], ◌∷◌, length, map, nat_lt, MatchBool, Option, Some, None, Result, Ok, Err, IsOk, codes, false, ⊤, if◌then◌else◌}
 use Rattle.std.specs.Str.{bytes_eq}
 use denote.Ref.{Bor}
 use Rattle.outside.specs.Shelf.{Told, untold, missing, holds}
@@ -11,8 +11,8 @@ use Rattle.history_model.specs.Log.{lines_of}
 use Rattle.history_model.specs.Outcome.{Outcome, Says}
 use Rattle.history_model.specs.Statuses.{code_of}
 use Rattle.history_model.specs.declared.statuses.Status.{Status}
-use Rattle.history_model.specs.declared.statuses.Status.TheVariants.{Usage, CoreRefused, LogRefused, ReadFailed, OutOfMemory}
-use Rattle.rights.specs.FixedTexts.{usage_line, core_too_long_line, core_refusal_line, log_refusal_line}
+use Rattle.history_model.specs.declared.statuses.Status.TheVariants.{CoreRefused, LogRefused, ReadFailed, OutOfMemory}
+use Rattle.rights.specs.FixedTexts.{core_too_long_line, core_refusal_line, log_refusal_line}
 use Rattle.rights.specs.Standing.{start_of}
 use Rattle.rights.specs.Ends.{Ends, one_line}
 

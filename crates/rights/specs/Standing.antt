@@ -1,5 +1,5 @@
 -- What a session stands for: the moment that a core and a list of accepted events lead to.
-use Rattle.std.specs.Prelude.{◌≡◌, ℕ, List, map, Option}
+use Rattle.std.specs.Prelude.{◌≡◌, ℕ, List, map}
 use Rattle.paging_model.specs.declared.registers.Machine.{Machine}
 use Rattle.paging_model.specs.declared.registers.Regs.{Regs}
 use Rattle.elf_core.specs.declared.processors.Processor.{Processor}

@@ -1,15 +1,83 @@
-//! Answers the lines of a log about a memory core.
+//! Answers the lines of a log about a memory core: `run CORE LOG`.
+//!
+//! The program is the top call `run` over the host's files and standard output. Its exit status is that of the call, or
+//! 9 where it can't get its words.
 #![tactic(auto)]
 
-mod entries;
-mod lines;
-mod logs;
-mod numbers;
-mod replies;
-mod runs;
-mod session;
-mod texts;
-mod walks;
-mod words;
+ghost use Rattle.std.specs.Prelude.{◌≡◌, ◌<◌};
 
-fn main() {}
+pub mod entries;
+pub mod lines;
+pub mod logs;
+pub mod numbers;
+pub mod replies;
+pub mod runs;
+pub mod session;
+pub mod texts;
+pub mod walks;
+pub mod words;
+
+use outside::{FileShelf, Shelf, Sink, StreamSink};
+use phys_view::{Steps, Uncounted};
+pub use runs::run;
+use std::alloc::{AllocError, Global};
+use std::env;
+use std::marker::Brand;
+use std::process::ExitCode;
+use std::sync::ledger::{Blank, Ledger as Books};
+
+/// The exit status where the program can't get its words.
+const NO_WORDS: u8 = 9;
+
+fn main(rt: HostRuntime) -> ExitCode {
+    let alloc = rt.alloc();
+    let Ok(owned) = words_of(&rt) else {
+        return ExitCode::from(NO_WORDS);
+    };
+    let Ok(words) = borrowed(alloc, &owned) else {
+        return ExitCode::from(NO_WORDS);
+    };
+    let mut shelf = FileShelf::new(rt);
+    let mut out = StreamSink::new(rt);
+    ExitCode::from(run_uncounted(alloc, &words, &mut shelf, &mut out))
+}
+
+// The words after the program's name.
+fn words_of(rt: &HostRuntime) -> Result<Vec<String>, AllocError> {
+    match env::args(rt) {
+        Ok(args) => args.skip(1).collect(rt.alloc()),
+        Err(_) => Err(AllocError),
+    }
+}
+
+fn borrowed(alloc: Global, words: &[String]) -> Result<Vec<&str>, AllocError> {
+    words.iter().map(|word| word.as_str()).collect(alloc)
+}
+
+// A run whose steps nobody counts.
+fn run_uncounted<S: Shelf, K: Sink>(
+    alloc: Global,
+    words: &[&str],
+    shelf: &mut S,
+    out: &mut K,
+) -> u8 {
+    run_with::<S, K, Brand>(alloc, words, shelf, out, Blank::new(1))
+}
+
+fn run_with<S: Shelf, K: Sink, B: Books>(
+    alloc: Global,
+    words: &[&str],
+    shelf: &mut S,
+    out: &mut K,
+    blank: Blank,
+) -> u8
+    requires name { blank.name ≡ B.name }
+    requires parts { blank.parts ≡ B.parts }
+    requires some { 0 < B.parts }
+{
+    let mut steps = Steps::new(Uncounted::<B>::new(blank));
+    run(alloc, words, shelf, out, &mut steps)
+}
+
+#[cfg(test)]
+mod tests;

@@ -51,18 +51,18 @@ pub fn run<S: Shelf, K: Sink, L: Ledger>(
     // With words of no form the usage line is written, or its put failed.
     ensures usage { form_of_words (texts words.now) ≡ None
         → EndsWith result (λ status. ((status ≡ Status.Usage) ⊎ (status ≡ Status.WriteFailed))
-            × Ends (λ outcome. outcome ≡ one_line usage_line Status.Usage) (K.pieces out.old) (K.pieces out.new) status) }
+        × Ends (λ outcome. outcome ≡ one_line usage_line Status.Usage) (K.pieces out.old) (K.pieces out.new) status) }
 
     // Else the outcome of a core and a log is written, which are those that the shelf tells; or nothing, since a file
     // couldn't be read or memory was wanted.
     ensures outcome { (core log : List ℕ) → form_of_words (texts words.now) ≡ Some (run_form core log)
         → EndsWith result (λ status. (status ≢ Status.Usage) × (IsUnread (K.pieces out.old) (K.pieces out.new) status
-            ⊎ Answers (S.told shelf.old core) (S.told shelf.old log) (K.pieces out.old) (K.pieces out.new) status)) }
+        ⊎ Answers (S.told shelf.old core) (S.told shelf.old log) (K.pieces out.old) (K.pieces out.new) status)) }
 
     // Status 5 has a cause: reads of the core failed, or the core was accepted and reads of the log failed.
     ensures read_failed { result ≡ code_of Status.ReadFailed
         → (core : List ℕ) × (log : List ℕ) × (form_of_words (texts words.now) ≡ Some (run_form core log))
-            × FailedToRead (S.told shelf.old core) (Rose (S.faults shelf.old core) (S.faults shelf.new core)) (Rose (S.faults shelf.old log) (S.faults shelf.new log)) }
+        × FailedToRead (S.told shelf.old core) (Rose (S.faults shelf.old core) (S.faults shelf.new core)) (Rose (S.faults shelf.old log) (S.faults shelf.new log)) }
 
     // Status 6 has a cause: a put failed.
     ensures write_failed { result ≡ code_of Status.WriteFailed → Rose (K.faults out.old) (K.faults out.new) }
@@ -76,7 +76,7 @@ pub fn run<S: Shelf, K: Sink, L: Ledger>(
         → ¬ Rose (S.faults shelf.old log) (S.faults shelf.new log)
         → ¬ Rose (K.faults out.old) (K.faults out.new)
         → ((result ≡ code_of outcome.status) × Adds (K.pieces out.old) (K.pieces out.new) outcome.lines)
-            ⊎ (result ≡ code_of Status.OutOfMemory) }
+        ⊎ (result ≡ code_of Status.OutOfMemory) }
 
     // The files stay as they are, no count falls, and only the files that the words name are read.
     ensures told { (n : List ℕ) → S.told shelf.new n ≡ S.told shelf.old n }
@@ -150,7 +150,7 @@ fn answer<S: Shelf, K: Sink, L: Ledger>(
         → ¬ Rose (S.faults shelf.old log.now) (S.faults shelf.new log.now)
         → ¬ Rose (K.faults out.old) (K.faults out.new)
         → ((code_of result ≡ code_of outcome.status) × Adds (K.pieces out.old) (K.pieces out.new) outcome.lines)
-            ⊎ (code_of result ≡ code_of Status.OutOfMemory) }
+        ⊎ (code_of result ≡ code_of Status.OutOfMemory) }
     ensures never { result ≢ Status.Usage }
     ensures told { (n : List ℕ) → S.told shelf.new n ≡ S.told shelf.old n }
     ensures reach { (n : List ℕ) → n ≢ core.now → n ≢ log.now → S.reach shelf.new n ≡ S.reach shelf.old n }

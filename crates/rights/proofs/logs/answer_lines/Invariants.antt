@@ -1,4 +1,4 @@
-use Rattle.std.proofs.Common.{ℕ, ◌+◌, ◌≤◌, length}
+use Rattle.std.proofs.Common.{◌+◌, ◌≤◌, length}
 use Rattle.history_model.specs.History.{History}
 use Rattle.history_model.specs.Log.{lines_of}
 use Rattle.rights.specs.Standing.{StandsFor}
@@ -10,7 +10,7 @@ invariant-loop-line g l = record {
   part : (start : History) → StandsFor l.session start
       → Partway start (lines_of l.log) l.session (g.K.Sink.pieces l.fn.out) (g.K.Sink.pieces l.out) l.number (lines_of l.rest);
   few : l.number + length l.rest ≤ length l.log;
-  count : g.K.Sink.faults l.fn.out ≤ g.K.Sink.faults l.out
+  count : g.K.Sink.faults l.fn.out ≤ g.K.Sink.faults l.out;
 }
 
 abbrev pub decreases-loop-line : goal.decreases-loop-line

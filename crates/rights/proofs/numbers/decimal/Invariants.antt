@@ -5,5 +5,5 @@ use Rattle.rights.proofs.numbers.decimal.Given as goal
 abbrev pub invariant-loop-character : goal.invariant-loop-character
 invariant-loop-character l = record {
   same : value_behind decimal_digit 10 l.value (drop l.character-index l.digits) ≡ value_behind decimal_digit 10 0 l.digits;
-  fits : l.value < 2 ^ 64
+  fits : l.value < 2 ^ 64;
 }

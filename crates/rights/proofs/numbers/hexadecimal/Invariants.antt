@@ -5,5 +5,5 @@ use Rattle.rights.proofs.numbers.hexadecimal.Given as goal
 abbrev pub invariant-loop-character : goal.invariant-loop-character
 invariant-loop-character l = record {
   same : value_behind hex_digit 16 l.value (drop l.character-index l.digits) ≡ value_behind hex_digit 16 0 l.digits;
-  fits : l.value < 2 ^ 64
+  fits : l.value < 2 ^ 64;
 }

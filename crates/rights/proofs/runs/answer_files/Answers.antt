@@ -1,4 +1,4 @@
-use Rattle.std.proofs.Common.{◌≡◌, sym, ◌∙◌, inl, inr, refl, []}
+use Rattle.std.proofs.Common.{◌≡◌, inl, inr, refl, []}
 use Rattle.outside.proofs.Counts.{Rose-earlier}
 use Rattle.std.specs.Prelude.{Ok, Err}
 use Rattle.elf_core.specs.Cores.{core_of}
@@ -15,52 +15,55 @@ use Rattle.rights.proofs.runs.answer_files.Goals as goal
 pub returns-then-file-clause-ends : goal.returns-then-file-clause-ends
 returns-then-file-clause-ends g c =
     let read = read_past (g.S.Shelf.told c.args.shelf.now c.args.core.now) core_limit _ c.in-Ok.file.bytes.items c.in-Ok.file.cut c.in-Ok.file.bytes.ok.0
-        c.in-Ok.ensures.whole c.in-Ok.ensures.missing c.in-Ok.ensures.cut c.if-file.true in
+    c.in-Ok.ensures.whole c.in-Ok.ensures.missing c.in-Ok.ensures.cut c.if-file.true in
     inr (record {
       core = read.content;
       log = [];
       core_is = read.may_be;
       log_is = λ is. absurd (past_accepted read.content read.past is);
       ends = core_past read.content [] _ _ _ read.past
-          (rw c.after_put.ensures (one_line-ends _ _ core_too_long_line CoreRefused c.put.result (inr (inl refl)) (rw c.core_too_long.ensures at c.put.ensures.pieces)))
+          (rw c.after_put.ensures (one_line-ends _ _ core_too_long_line CoreRefused c.put.result (inr (inl refl)) (rw c.core_too_long.ensures at c.put.ensures.pieces)));
     })
 
 pub returns-in-Err-NotBuilt-clause-ends : goal.returns-in-Err-NotBuilt-clause-ends
 returns-in-Err-NotBuilt-clause-ends g c =
     let read = read_within (g.S.Shelf.told c.args.shelf.now c.args.core.now) core_limit _ c.in-Ok.file.bytes.items c.in-Ok.file.cut c.in-Ok.file.bytes.ok.0
-        c.in-Ok.ensures.whole c.in-Ok.ensures.missing c.in-Ok.ensures.bound c.if-file.false in
+    c.in-Ok.ensures.whole c.in-Ok.ensures.missing c.in-Ok.ensures.bound c.if-file.false in
     let is : core_of c.in-Ok.file.bytes.items ≡ Err CoreFault.NotBuilt =
-        rw c.deref.ensures.value at (rw c.in-Err-NotBuilt.field-0-is at c.in-Err-NotBuilt.ensures.refused) in
+    rw c.deref.ensures.value at (rw c.in-Err-NotBuilt.field-0-is at c.in-Err-NotBuilt.ensures.refused) in
     inr (record {
       core = c.in-Ok.file.bytes.items;
       log = [];
       core_is = read.may_be;
       log_is = λ taken. absurd (refused_accepted c.in-Ok.file.bytes.items CoreFault.NotBuilt is taken);
       ends = core_refused c.in-Ok.file.bytes.items [] _ _ _ CoreFault.NotBuilt read.within is
-          (rw c.after_put-in-Err-NotBuilt.ensures (one_line-ends _ _ core_refusal_line CoreRefused c.put-in-Err-NotBuilt.result (inr (inl refl)) (rw c.core_not_built.ensures at c.put-in-Err-NotBuilt.ensures.pieces)))
+          (rw c.after_put-in-Err-NotBuilt.ensures (one_line-ends _ _ core_refusal_line CoreRefused c.put-in-Err-NotBuilt.result (inr (inl refl)) (rw c.core_not_built.ensures at c.put-in-Err-NotBuilt.ensures.pieces)));
     })
 
 pub returns-in-Ok-parse-clause-ends : goal.returns-in-Ok-parse-clause-ends
 returns-in-Ok-parse-clause-ends g c =
     let read = read_within (g.S.Shelf.told c.args.shelf.now c.args.core.now) core_limit _ c.in-Ok.file.bytes.items c.in-Ok.file.cut c.in-Ok.file.bytes.ok.0
-        c.in-Ok.ensures.whole c.in-Ok.ensures.missing c.in-Ok.ensures.bound c.if-file.false in
+    c.in-Ok.ensures.whole c.in-Ok.ensures.missing c.in-Ok.ensures.bound c.if-file.false in
     let is : core_of c.in-Ok.file.bytes.items ≡ Ok c.in-Ok-parse.core =
-        rw c.deref.ensures.value at c.in-Ok-parse.ensures.ok in
-    elim (rw (c.in-Ok.ensures.told c.args.log.now) at (c.answer_log.ensures.ends (begun (start_of c.in-Ok-parse.core)) c.new-session.ensures))
-        [ inl unread ↦ inl unread
-        | inr answers ↦ inr (record {
-            core = c.in-Ok.file.bytes.items;
-            log = answers.log;
-            core_is = read.may_be;
-            log_is = λ taken. answers.log_is;
-            ends = core_read c.in-Ok.file.bytes.items answers.log _ _ _ c.in-Ok-parse.core read.within is answers.ends
-          }) ]
+    rw c.deref.ensures.value at c.in-Ok-parse.ensures.ok in
+    elim (rw (c.in-Ok.ensures.told c.args.log.now) at (c.answer_log.ensures.ends (begun (start_of c.in-Ok-parse.core)) c.new-session.ensures)) [
+      | inl unread ↦ inl unread
+      | inr answers ↦ inr (record {
+        core = c.in-Ok.file.bytes.items;
+        log = answers.log;
+        core_is = read.may_be;
+        log_is = λ taken. answers.log_is;
+        ends = core_read c.in-Ok.file.bytes.items answers.log _ _ _ c.in-Ok-parse.core read.within is answers.ends;
+      })
+    ]
 
 pub returns-in-Ok-parse-clause-read_failed : goal.returns-in-Ok-parse-clause-read_failed
 returns-in-Ok-parse-clause-read_failed g c = λ failed.
     let read = read_within (g.S.Shelf.told c.args.shelf.now c.args.core.now) core_limit _ c.in-Ok.file.bytes.items c.in-Ok.file.cut c.in-Ok.file.bytes.ok.0
-        c.in-Ok.ensures.whole c.in-Ok.ensures.missing c.in-Ok.ensures.bound c.if-file.false in
+    c.in-Ok.ensures.whole c.in-Ok.ensures.missing c.in-Ok.ensures.bound c.if-file.false in
     let is : core_of c.in-Ok.file.bytes.items ≡ Ok c.in-Ok-parse.core =
-        rw c.deref.ensures.value at c.in-Ok-parse.ensures.ok in
-    inr (Rose-earlier _ _ _ (c.in-Ok.ensures.count c.args.log.now) (c.answer_log.ensures.read_failed failed),
-        (c.in-Ok.file.bytes.items, read.may_be, accepted c.in-Ok.file.bytes.items c.in-Ok-parse.core read.within is))
+    rw c.deref.ensures.value at c.in-Ok-parse.ensures.ok in
+    inr (
+      Rose-earlier _ _ _ (c.in-Ok.ensures.count c.args.log.now) (c.answer_log.ensures.read_failed failed),
+      (c.in-Ok.file.bytes.items, read.may_be, accepted c.in-Ok.file.bytes.items c.in-Ok-parse.core read.within is),
+    )

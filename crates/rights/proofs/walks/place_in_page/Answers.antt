@@ -1,4 +1,4 @@
-use Rattle.std.proofs.Common.{ℕ, ◌≡◌, ◌<◌, ◌≤◌, ◌+◌, ◌-◌, ◌*◌, ◌^◌, arith}
+use Rattle.std.proofs.Common.{ℕ, ◌+◌, ◌-◌, ◌*◌, ◌^◌, arith}
 use Rattle.std.proofs.lemmas.Nat.{one_shl, pow_pos, mod_below}
 use Rattle.std.proofs.Math.Pow.{pow_mono}
 use Rattle.rights.proofs.walks.place_in_page.Goals as goal

@@ -1,5 +1,4 @@
-use Rattle.std.proofs.Common.{rules, ◌≡◌, ℕ, ◌+◌, ◌-◌, ◌*◌, ◌/◌, ◌%◌, ◌^◌, ◌<◌, ◌≤◌, sym, ◌∙◌, arith, refl}
-use Rattle.std.proofs.lemmas.Grind.{common_steps}
+use Rattle.std.proofs.Common.{◌≡◌, sym, ◌∙◌, arith, refl}
 use Rattle.std.specs.Prelude.{true, false}
 use Rattle.paging_model.specs.Entries.{is_present}
 use Rattle.paging_model.specs.Walking.{walk}
@@ -15,7 +14,7 @@ loop-level-init g c = record {
   levels = omega arith;
   cost = omega arith;
   aligned = c.requires.aligned;
-  below = c.requires.below
+  below = c.requires.below;
 }
 
 pub returns-in_default-clause-value : goal.returns-in_default-clause-value
@@ -55,7 +54,7 @@ loop-level-preserved g c =
       levels = omega arith;
       cost = omega arith;
       aligned = c.in-Table.ensures.frame.aligned;
-      below = c.in-Table.ensures.frame.below
+      below = c.in-Table.ensures.frame.below;
     }
 
 pub returns-in-Leaf-clause-value : goal.returns-in-Leaf-clause-value
@@ -63,7 +62,7 @@ returns-in-Leaf-clause-value g c =
     let present : is_present c.in-Some.value ≡ true = cc in
     let plain : is_plain c.loop-level.level c.args.settings.now c.in-Some.value ≡ true = cc in
     rw (c.join.ensures, c.own_frame.ensures.value)
-        (sym (built_from-entry _ _ _ _ _ c.loop-level.bits _ _ _ (omega arith) c.entry_address.ensures.value c.in-Some.ensures.value present plain c.in-Leaf.ensures.value) ∙ c.loop-level.invariant.walked)
+    (sym (built_from-entry _ _ _ _ _ c.loop-level.bits _ _ _ (omega arith) c.entry_address.ensures.value c.in-Some.ensures.value present plain c.in-Leaf.ensures.value) ∙ c.loop-level.invariant.walked)
 
 pub returns-clause-value : goal.returns-clause-value
 returns-clause-value g c =

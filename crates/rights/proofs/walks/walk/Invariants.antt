@@ -1,4 +1,4 @@
-use Rattle.std.proofs.Common.{◌≡◌, ℕ, ◌+◌, ◌%◌, ◌^◌, ◌<◌, ◌≤◌}
+use Rattle.std.proofs.Common.{◌≡◌, ◌+◌, ◌%◌, ◌^◌, ◌<◌, ◌≤◌}
 use Rattle.phys_view.specs.Seen.{memory_of}
 use Rattle.rights.specs.BuiltWalks.{built_walk, built_from}
 use Rattle.rights.proofs.walks.walk.Given as goal
@@ -10,7 +10,7 @@ invariant-loop-level g l = record {
   levels : l.level ≤ 5;
   cost : l.steps + l.level ≤ l.fn.steps + 5;
   aligned : l.table % 4096 ≡ 0;
-  below : l.table < 2 ^ 52
+  below : l.table < 2 ^ 52;
 }
 
 abbrev pub decreases-loop-level : goal.decreases-loop-level

@@ -1,4 +1,4 @@
-use Rattle.std.proofs.Common.{◌≡◌, sym, ◌∙◌, ap}
+use Rattle.std.proofs.Common.{sym}
 use Rattle.rights.proofs.Refusals.{refusal-ask}
 use Rattle.rights.proofs.session.Session.answer_ask.Goals as goal
 

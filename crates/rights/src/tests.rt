@@ -1,0 +1,255 @@
+//! Runs over files in memory, whose outputs were worked out by hand.
+
+use super::*;
+use outside::{MemShelf, MemSink};
+use std::test::Fail;
+
+const CORE_LEN: usize = 65_832;
+
+/// Where the core's segment begins, which is memory from 0 on.
+const MEMORY: usize = 296;
+
+const CR3: usize = 248;
+
+fn put(bytes: &mut [u8], place: usize, number: &[u8]) {
+    if let Some(behind) = bytes.get_mut(place..)
+        && let Some(field) = behind.get_mut(..number.len())
+    {
+        field.copy_from_slice(number);
+    }
+}
+
+// The example core: its notes state a machine of 40 bits and processor 0, and its tables map the page 0x0 to 0x5000 and
+// the page 0x1000 to 0x6000.
+fn example_core(alloc: Global) -> Result<Vec<u8>, AllocError> {
+    let mut core = vec![in alloc; 0u8; CORE_LEN]?;
+    put(&mut core, 0, b"\x7fELF\x02\x01");
+    put(&mut core, 16, &[4, 0, 62, 0]);
+    put(&mut core, 32, &[64]);
+    put(&mut core, 54, &[56, 0, 2]);
+    put(&mut core, 64, &[4, 0, 0, 0, 0, 0, 0, 0, 176]);
+    put(&mut core, 96, &[120]);
+    put(&mut core, 120, &[1, 0, 0, 0, 0, 0, 0, 0, 40, 1]);
+    put(&mut core, 152, &[0, 0, 1]);
+    put(&mut core, 176, b"\x0a\0\0\0\x08\0\0\0\x01\0\0\0X86RIGHTS");
+    put(&mut core, 200, &[40, 0, 0, 0, 1]);
+    put(&mut core, 208, b"\x0a\0\0\0\x40\0\0\0\x02\0\0\0X86RIGHTS");
+    put(&mut core, 240, &0x8001_0001u64.to_le_bytes());
+    put(&mut core, CR3, &0x1000u64.to_le_bytes());
+    put(&mut core, 256, &0x20u64.to_le_bytes());
+    put(&mut core, 264, &0xd00u64.to_le_bytes());
+    put(&mut core, 272, &[2]);
+    for (at, entry) in [
+        (0x1000, 0x2007),
+        (0x2000, 0x3007),
+        (0x3000, 0x4007),
+        (0x4000, 0x5007),
+        (0x4008, 0x6005u64),
+    ] {
+        put_entry(&mut core, at, entry);
+    }
+    Ok(core)
+}
+
+fn put_entry(core: &mut [u8], at: usize, entry: u64) {
+    put(core, MEMORY.saturating_add(at), &entry.to_le_bytes());
+}
+
+// A core of four program headers: foreign notes, the example's memory, memory that overlaps it, and memory without bytes.
+fn foreign_core(alloc: Global) -> Result<Vec<u8>, AllocError> {
+    let example = example_core(alloc)?;
+    let memory = example.get(MEMORY..).unwrap_or(&[]);
+    let mut core = vec![in alloc; 0u8; 131_416]?;
+    put(&mut core, 0, b"\x7fELF\x02\x01");
+    put(&mut core, 16, &[4, 0, 62, 0]);
+    put(&mut core, 32, &[64]);
+    put(&mut core, 54, &[56, 0, 4]);
+    put(&mut core, 64, &[4, 0, 0, 0, 0, 0, 0, 0, 32, 1]);
+    put(&mut core, 96, &[56]);
+    put(&mut core, 120, &[1, 0, 0, 0, 0, 0, 0, 0, 88, 1]);
+    put(&mut core, 152, &[0, 0, 1]);
+    put(&mut core, 176, &[1, 0, 0, 0, 0, 0, 0, 0, 88, 1, 1]);
+    put(&mut core, 200, &[0, 128]);
+    put(&mut core, 208, &[0, 0, 1]);
+    put(
+        &mut core,
+        232,
+        &[
+            1, 0, 0, 0, 0, 0, 0, 0, 255, 255, 255, 255, 255, 255, 255, 255,
+        ],
+    );
+    put(&mut core, 256, &[0, 0, 16]);
+    put(&mut core, 272, &[0, 16]);
+    put(&mut core, 288, b"\x05\0\0\0\x08\0\0\0\x01\0\0\0CORE");
+    put(&mut core, 316, b"\x05\0\0\0\x08\0\0\0\0\0\0\0QEMU");
+    put(&mut core, 344, memory);
+    for byte in core.iter_mut().skip(65_880) {
+        *byte = 0xff;
+    }
+    Ok(core)
+}
+
+// What a run over a core and a log wrote, and its status.
+fn outcome(alloc: Global, core: &[u8], log: &[u8]) -> Result<(Vec<u8>, u8), AllocError> {
+    let mut shelf = MemShelf::new(alloc);
+    let mut out = MemSink::new(alloc);
+    shelf.add("core", core)?;
+    shelf.add("log", log)?;
+    let status = run_uncounted(alloc, &["run", "core", "log"], &mut shelf, &mut out);
+    Ok((out.bytes().to_vec(alloc)?, status))
+}
+
+#[test]
+fn lines_are_answered_or_refused(rt: HostRuntime) -> Result<(), Fail> {
+    let core = example_core(rt.alloc())?;
+    let cases: [(&[u8], &[u8], u8); 8] = [
+        (
+            b"ask 0 sr 0x1234\nask 0 sr 0x2000\nask 0 sr 0x200000\nask 0 sr 0x800000000000\n",
+            b"granted 0x6234\ndenied absent 1\ndenied absent 2\ndenied not-canonical\n",
+            0,
+        ),
+        (b"", b"", 0),
+        (b"# note\n\nask 0 sr 0xfff", b"granted 0x5fff\n", 0),
+        (b"ask 0 sr 4660\n", b"granted 0x6234\n", 0),
+        (
+            b"ask 0 sr 0x0\nlist 0\nask 0 sr 0x0\n",
+            b"granted 0x5000\nline 2 refused: not built\n",
+            4,
+        ),
+        (b"ask 0  sr 0x0\n", b"line 1 refused: not built\n", 4),
+        (b"ask 1 sr 0x0\n", b"line 1 refused: not built\n", 4),
+        (
+            b"\n#\nask 0 sr 0x10000000000000000\n",
+            b"line 3 refused: not built\n",
+            4,
+        ),
+    ];
+    for (log, text, status) in cases {
+        let (written, code) = outcome(rt.alloc(), &core, log)?;
+        assert_eq!(rt; written.as_slice(), text);
+        assert_eq!(rt; code, status);
+    }
+    Ok(())
+}
+
+#[test]
+fn a_line_of_more_than_8300_bytes_is_refused(rt: HostRuntime) -> Result<(), Fail> {
+    let core = example_core(rt.alloc())?;
+    let mut log = vec![in rt.alloc(); b'#'; 8300]?;
+    let (written, code) = outcome(rt.alloc(), &core, &log)?;
+    assert_eq!(rt; written.as_slice(), b"".as_slice());
+    assert_eq!(rt; code, 0);
+    log.push(b'#')?;
+    let (written, code) = outcome(rt.alloc(), &core, &log)?;
+    assert_eq!(rt;
+        written.as_slice(),
+        b"line 1 refused: not built\n".as_slice()
+    );
+    assert_eq!(rt; code, 4);
+    Ok(())
+}
+
+#[test]
+fn the_walk_reads_the_tables_of_the_core(rt: HostRuntime) -> Result<(), Fail> {
+    // The root, an address in memory and its entry, and what is written.
+    let cases: [(u64, usize, u64, &[u8], u8); 5] = [
+        (0x10000, 0, 0, b"denied unknown 4\n", 0),
+        (
+            0x1000,
+            0x3000,
+            0x0040_00e7,
+            b"line 1 refused: not built\n",
+            4,
+        ),
+        (0x1000, 0x3000, 0x0040_00e6, b"denied absent 2\n", 0),
+        (
+            0x1000,
+            0x4000,
+            0x0100_0000_5007,
+            b"line 1 refused: not built\n",
+            4,
+        ),
+        (0x1000, 0x4000, 0x7007, b"granted 0x7000\n", 0),
+    ];
+    for (root, at, entry, text, status) in cases {
+        let mut core = example_core(rt.alloc())?;
+        put(&mut core, CR3, &root.to_le_bytes());
+        put_entry(&mut core, at, entry);
+        let (written, code) = outcome(rt.alloc(), &core, b"ask 0 sr 0x0\n")?;
+        assert_eq!(rt; written.as_slice(), text);
+        assert_eq!(rt; code, status);
+    }
+    Ok(())
+}
+
+#[test]
+fn another_core_is_refused(rt: HostRuntime) -> Result<(), Fail> {
+    let core = example_core(rt.alloc())?;
+    let refused: ([u8; 24], u8) = (*b"core refused: not built\n", 3);
+    for len in [0, 63, 295, 65_831] {
+        let (written, code) = outcome(rt.alloc(), core.get(..len).unwrap_or(&[]), b"list 0\n")?;
+        assert_eq!(rt; written.as_slice(), refused.0.as_slice());
+        assert_eq!(rt; code, refused.1);
+    }
+    let (written, code) = outcome(rt.alloc(), &foreign_core(rt.alloc())?, b"ask 0 sr 0x0\n")?;
+    assert_eq!(rt; written.as_slice(), refused.0.as_slice());
+    assert_eq!(rt; code, refused.1);
+    Ok(())
+}
+
+#[test]
+fn words_of_no_form_get_the_usage_line(rt: HostRuntime) -> Result<(), Fail> {
+    let alloc = rt.alloc();
+    for words in [
+        [].as_slice(),
+        &["run", "core"],
+        &["walk", "core", "log"],
+        &["run", "core", "log", "more"],
+        &["check", "core"],
+    ] {
+        let mut out = MemSink::new(alloc);
+        let status = run_uncounted(alloc, words, &mut MemShelf::new(alloc), &mut out);
+        assert_eq!(rt; status, 2);
+        assert_eq!(rt;
+            out.bytes(),
+            b"usage: run CORE LOG | check CORE | gen SEED COUNT\n".as_slice()
+        );
+    }
+    Ok(())
+}
+
+#[test]
+fn faults_end_a_run(rt: HostRuntime) -> Result<(), Fail> {
+    let alloc = rt.alloc();
+    let core = example_core(alloc)?;
+    let words = ["run", "core", "log"];
+    let mut shelf = MemShelf::new(alloc);
+    let mut out = MemSink::new(alloc);
+
+    // No file has a name that isn't held.
+    assert_eq!(rt; run_uncounted(alloc, &words, &mut shelf, &mut out), 5);
+    shelf.add("core", &core)?;
+    assert_eq!(rt; run_uncounted(alloc, &words, &mut shelf, &mut out), 5);
+    shelf.add("log", b"ask 0 sr 0x0\nask 0 sr 0x0\nask 0 sr 0x0\n")?;
+    assert_eq!(rt; out.bytes(), b"".as_slice());
+
+    // The third put keeps three bytes.
+    out.fail(3, 3)?;
+    assert_eq!(rt; run_uncounted(alloc, &words, &mut shelf, &mut out), 6);
+    assert_eq!(rt;
+        out.bytes(),
+        b"granted 0x5000\ngranted 0x5000\ngra".as_slice()
+    );
+
+    // The first read fails.
+    let mut shelf = MemShelf::new(alloc);
+    let mut out = MemSink::new(alloc);
+    shelf.add("core", &core)?;
+    shelf.add("log", b"ask 0 sr 0x0\n")?;
+    shelf.fail(1)?;
+    assert_eq!(rt; run_uncounted(alloc, &words, &mut shelf, &mut out), 5);
+    assert_eq!(rt; out.bytes(), b"".as_slice());
+    assert_eq!(rt; run_uncounted(alloc, &words, &mut shelf, &mut out), 0);
+    assert_eq!(rt; out.bytes(), b"granted 0x5000\n".as_slice());
+    Ok(())
+}
