@@ -1,1 +1,3 @@
-pub mod PlainCores
+pub mod NoteLists
+pub mod Refusals
+pub mod Consistency

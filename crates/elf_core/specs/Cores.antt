@@ -1,82 +1,79 @@
--- The core that a file states. For now it is read where the file is plain: one segment, the machine and one processor
--- with 4-level paging, at fixed places.
-use Rattle.std.specs.Prelude.{◌≡◌, ℕ, ◌&&◌, ◌||◌, ◌==◌, not, nat_le, List, [], ◌∷◌, length, Bool, true, Option, Some, None, option_and_then, Result, Ok, Err, ok_or, if◌then◌else◌}
+-- The core that a file states: known memory, the machine and its processors, or the first refusal.
+use Rattle.std.specs.Prelude.{◌≡◌, ◌≢◌, ◌⊎◌, ◌≤◌, ℕ, zero, suc, ◌+◌, ◌++◌, List, [], ◌∷◌, length, All, AllPairs, Bool, true, false, Option, Some, None, Result, Ok, Err, if◌then◌else◌}
 use Rattle.paging_model.specs.Memory.{Extent}
-use Rattle.paging_model.specs.Registers.{la57, smap, pke, pks, lass, lam_sup, lam_u57, lam_u48}
+use Rattle.paging_model.specs.Registers.{machine_of}
 use Rattle.paging_model.specs.RegisterRules.{check_of}
-use Rattle.paging_model.specs.declared.registers.Machine.{Machine}
-use Rattle.paging_model.specs.declared.registers.Regs.{Regs}
-use Rattle.elf_core.specs.FileHeader.{is_core, e_phoff, e_phentsize, e_phnum}
-use Rattle.elf_core.specs.ProgramHeaders.{program_header_at, is_note, segment_of}
-use Rattle.elf_core.specs.StateNotes.{machine_note, processor_note}
+use Rattle.elf_core.specs.Steps.{◌>>=◌, steps_over}
+use Rattle.elf_core.specs.FileHeader.{file_header_check, e_phnum}
+use Rattle.elf_core.specs.ProgramHeaders.{program_header, is_load, is_note, segment_of, notes_of}
+use Rattle.elf_core.specs.Notes.{NoteParts, all_notes}
+use Rattle.elf_core.specs.StateNotes.{is_state_note, statement_of}
 use Rattle.elf_core.specs.declared.headers.ProgramHeader.{ProgramHeader}
-use Rattle.elf_core.specs.declared.processors.Processor.{Processor}
-use Rattle.elf_core.specs.Extents.{extent}
-use Rattle.elf_core.specs.declared.core_file.Plain.{Plain}
+use Rattle.paging_model.specs.declared.registers.Machine.{Machine}
+use Rattle.elf_core.specs.declared.state_notes.Statement.{Statement}
+use Rattle.elf_core.specs.declared.state_notes.Statement.TheVariants as statement
 use Rattle.elf_core.specs.declared.core_file.Core.{Core}
-use Rattle.elf_core.specs.declared.core_file.CoreFault.{CoreFault}
-use Rattle.elf_core.specs.declared.core_file.CoreFault.TheVariants.{NotBuilt, Memory}
+use Rattle.elf_core.specs.declared.faults.CoreFault.{CoreFault}
+use Rattle.elf_core.specs.declared.faults.CoreFault.TheVariants.{NoteRange, NoteState, Memory}
+use Rattle.elf_core.specs.declared.faults.NoteRule.{NoteRule}
 
-infixl 10 ◌>>=◌
-abbrev pub ◌>>=◌ : {A B : Type 0} → Option A → (A → Option B) → Option B
-o >>= f = option_and_then f o
+-- the machine where no note states one: the greatest physical width, and 1-GByte pages
+abbrev pub unstated_machine : Machine
+unstated_machine = machine_of 52 true
 
--- two program headers of 56 bytes from 64 on, and 120 bytes of notes behind them
-unfoldable pub is_plain_file : List ℕ → Bool
-is_plain_file bytes =
-    nat_le 296 (length bytes) && is_core bytes && e_phoff bytes == 64 && e_phentsize bytes == 56 && e_phnum bytes == 2
+-- what is known ahead of the first program header
+abbrev pub blank_core : Core
+blank_core = record { segments = []; stated = false; machine = unstated_machine; processors = [] }
 
--- the notes are 120 bytes at 176
-unfoldable pub is_plain_note_header : ProgramHeader → Bool
-is_plain_note_header header = is_note header && header.offset == 176 && header.file_size == 120
+abbrev pub with_segment : Core → Option Extent → Core
+with_segment core None = core
+with_segment core (Some segment) = record core { segments = core.segments ++ segment ∷ [] }
 
--- 4 levels, and none of the protections and maskings that depend on more than the walk
-unfoldable pub is_plain_state : Regs → Bool
-is_plain_state regs =
-    not (la57 regs || smap regs || pke regs || pks regs || lass regs || lam_sup regs || lam_u57 regs || lam_u48 regs)
+abbrev pub with_statement : Core → Statement → Core
+with_statement core (statement.Machine machine) = record core { stated = true; machine = machine }
+with_statement core (statement.Processor processor) = record core { processors = core.processors ++ processor ∷ [] }
 
-abbrev pub is_plain_processor : Processor → Bool
-is_plain_processor processor = processor.number == 0 && is_plain_state processor.regs
+-- a statement is added, and a broken rule tells the number of the header that its note is under
+abbrev pub after_statement : ℕ → Core → Result Statement NoteRule → Result Core CoreFault
+after_statement number core (Ok stated) = Ok (with_statement core stated)
+after_statement number core (Err broken) = Err (NoteState number broken)
 
--- a core of one segment and one processor, with its machine stated
-abbrev pub core_with : Extent → Machine → Processor → Core
-core_with segment machine processor = record {
-  segments = segment ∷ [];
-  stated = true;
-  machine = machine;
-  processors = processor ∷ [];
-}
+-- what is known after a note under the header of a number; notes of other owners say nothing
+unfoldable pub after_note : ℕ → Core → Option NoteParts → Result Core CoreFault
+after_note number core None = Err (NoteRange number)
+after_note number core (Some note) =
+    if is_state_note note then after_statement number core (statement_of core note) else Ok core
 
--- the core of its parts as they are read
-abbrev pub stated_core : Plain → Core
-stated_core plain = core_with (extent plain.segment) plain.machine plain.processor
+abbrev pub after_notes : ℕ → List (Option NoteParts) → Core → Result Core CoreFault
+after_notes number notes core = steps_over (after_note number) notes core
 
--- the core whose segment, machine and processor stand at the places of a plain file
-unfoldable pub core_in_place : List ℕ → Option Core
-core_in_place bytes = do
-  segment ← segment_of bytes (program_header_at bytes 120)
-  machine ← machine_note bytes 176
-  processor ← processor_note machine bytes 208
-  if is_plain_processor processor then Some (core_with segment machine processor) else None
+-- what is known after the program header of a number; headers of other types say nothing
+unfoldable pub after_header : List ℕ → Core → ℕ → Result Core CoreFault
+after_header bytes core number =
+    let header = program_header bytes number in
+    if is_load header then (segment_of bytes number header >>= λ segment. Ok (with_segment core segment)) else
+    (if is_note header then (notes_of bytes number header >>= λ notes. after_notes number (all_notes notes) core) else
+    Ok core)
 
--- the core of a plain file
-unfoldable pub plain_core : List ℕ → Option Core
-plain_core bytes =
-    if is_plain_file bytes && is_plain_note_header (program_header_at bytes 64) then core_in_place bytes else None
+-- so many numbers in order, from a first one on
+abbrev pub numbers_from : ℕ → ℕ → List ℕ
+numbers_from first zero = []
+numbers_from first (suc count) = first ∷ numbers_from (first + 1) count
+
+abbrev pub after_headers : List ℕ → List ℕ → Core → Result Core CoreFault
+after_headers bytes numbers core = steps_over (after_header bytes) numbers core
 
 -- the core that a file states, or why it is refused
 unfoldable pub core_of : List ℕ → Result Core CoreFault
-core_of bytes = ok_or (plain_core bytes) NotBuilt
+core_of bytes = file_header_check bytes >>= λ _. after_headers bytes (numbers_from 0 (e_phnum bytes)) blank_core
 
 -- a refusal is the defined one; only want of memory is no refusal of the file
-abbrev pub IsRefusalOf : Result Core CoreFault → CoreFault → Type 0
-IsRefusalOf defined Memory = Unit {0}
-IsRefusalOf defined fault = defined ≡ Err fault
+abbrev pub IsRefusalOf : {A : Type 0} → Result A CoreFault → CoreFault → Type 0
+IsRefusalOf defined fault = (fault ≡ Memory) ⊎ (defined ≡ Err fault)
 
--- a plain core has one processor, numbered 0, whose registers its machine allows
-pub record HasOneProcessor (core : Core) : Type 0 where
-  pub processor : Processor
-  pub alone : core.processors ≡ processor ∷ []
-  pub number : processor.number ≡ 0
-  pub allowed : check_of core.machine processor.regs ≡ Ok tt
-  pub plain : is_plain_state processor.regs ≡ true
+-- at most 64 processors, each with a number of its own, and with registers that the machine allows
+pub record IsConsistent (core : Core) : Type 0 where
+  pub few : length core.processors ≤ 64
+  pub distinct : AllPairs (λ one other. one.number ≢ other.number) core.processors
+  pub allowed : All (λ processor. check_of core.machine processor.regs ≡ Ok tt) core.processors
+  pub unstated : core.stated ≡ false → core.machine ≡ unstated_machine

@@ -1,8 +1,11 @@
 -- The first 64 bytes of an ELF file, of the 64-bit class.
 -- System V gABI, "ELF Header" and "ELF Identification".
-use Rattle.std.specs.Prelude.{ℕ, ◌&&◌, ◌==◌, List, [], ◌∷◌, Bool, slice_index, nat_eq}
+use Rattle.std.specs.Prelude.{ℕ, ◌+◌, ◌*◌, ◌==◌, not, nat_lt, List, [], ◌∷◌, length, Result, Ok, Err, slice_index, nat_eq, if◌then◌else◌}
 use Rattle.std.specs.List.{starts_with}
+use Rattle.elf_core.specs.Steps.{◌>>=◌}
 use Rattle.elf_core.specs.Fields.{half_at, xword_at}
+use Rattle.elf_core.specs.declared.faults.CoreFault.{CoreFault}
+use Rattle.elf_core.specs.declared.faults.CoreFault.TheVariants.{Short, NotElf, Class, Encoding, FileType, FileMachine, HeaderSize, HeaderCount, HeaderRange}
 
 -- 0x7F, and the letters ELF
 abbrev pub magic : List ℕ
@@ -35,7 +38,25 @@ e_phentsize bytes = half_at bytes 54
 abbrev pub e_phnum : List ℕ → ℕ
 e_phnum bytes = half_at bytes 56
 
--- a little-endian core of a 64-bit x86 machine
-abbrev pub is_core : List ℕ → Bool
-is_core bytes =
-    starts_with nat_eq bytes magic && ei_class bytes == 2 && ei_data bytes == 1 && e_type bytes == 4 && e_machine bytes == 62
+-- the file is a little-endian core of a 64-bit x86 machine
+unfoldable pub kind_check : List ℕ → Result (Unit {0}) CoreFault
+kind_check bytes =
+    if nat_lt (length bytes) 64 then Err Short else
+    (if not (starts_with nat_eq bytes magic) then Err NotElf else
+    (if not (ei_class bytes == 2) then Err Class else
+    (if not (ei_data bytes == 1) then Err Encoding else
+    (if not (e_type bytes == 4) then Err FileType else
+    (if not (e_machine bytes == 62) then Err FileMachine else Ok tt)))))
+
+-- its program headers lie in the file; a number of 0xFFFF tells that their number stands elsewhere
+unfoldable pub table_check : List ℕ → Result (Unit {0}) CoreFault
+table_check bytes =
+    if not (e_phentsize bytes == 56) then Err HeaderSize else
+    (if e_phnum bytes == 0xffff then Err HeaderCount else
+    (if nat_lt (length bytes) (e_phoff bytes + 56 * e_phnum bytes) then Err HeaderRange else Ok tt))
+
+-- the first rule that the file header breaks
+unfoldable pub file_header_check : List ℕ → Result (Unit {0}) CoreFault
+file_header_check bytes = do
+  _ ← kind_check bytes
+  table_check bytes

@@ -1,6 +1,10 @@
+pub mod Steps
 pub mod Extents
 pub mod Fields
 pub mod FileHeader
 pub mod ProgramHeaders
+pub mod Notes
+pub mod NoteViews
+pub mod ProcessorLists
 pub mod StateNotes
 pub mod Cores

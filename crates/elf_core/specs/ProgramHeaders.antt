@@ -1,8 +1,12 @@
--- Program headers, and the segments of memory that they place. System V gABI, "Program Header".
-use Rattle.std.specs.Prelude.{ℕ, ◌+◌, ◌^◌, ◌&&◌, ◌||◌, ◌==◌, not, nat_le, List, length, slice_range, Bool, Option, Some, None, if◌then◌else◌}
+-- Program headers, and the parts of the file that they name: segments of memory, and notes.
+-- System V gABI, "Program Header".
+use Rattle.std.specs.Prelude.{ℕ, ◌+◌, ◌*◌, ◌^◌, ◌||◌, ◌==◌, not, nat_le, List, [], length, slice_range, Bool, Option, Some, None, Result, Ok, Err, if◌then◌else◌}
 use Rattle.paging_model.specs.Memory.{Extent}
 use Rattle.elf_core.specs.Fields.{word_at, xword_at}
+use Rattle.elf_core.specs.FileHeader.{e_phoff}
 use Rattle.elf_core.specs.declared.headers.ProgramHeader.{ProgramHeader}
+use Rattle.elf_core.specs.declared.faults.CoreFault.{CoreFault}
+use Rattle.elf_core.specs.declared.faults.CoreFault.TheVariants.{SegmentRange, SegmentAddress, NoteRange}
 
 -- the header of 56 bytes at a place: p_type at 0, p_offset at 8, p_paddr at 24, p_filesz at 32
 abbrev pub program_header_at : List ℕ → ℕ → ProgramHeader
@@ -12,6 +16,10 @@ program_header_at bytes place = record {
   physical = xword_at bytes (place + 24);
   file_size = xword_at bytes (place + 32);
 }
+
+-- the header of a number, from 0 on
+abbrev pub program_header : List ℕ → ℕ → ProgramHeader
+program_header bytes number = program_header_at bytes (e_phoff bytes + 56 * number)
 
 -- p_type PT_LOAD: memory
 abbrev pub is_load : ProgramHeader → Bool
@@ -33,15 +41,20 @@ is_in_file bytes header = nat_le (header.offset + header.file_size) (length byte
 abbrev pub is_below_the_width : ProgramHeader → Bool
 is_below_the_width header = nat_le (header.physical + header.file_size) (2 ^ 52)
 
--- the header's bytes, from its physical address on
-abbrev pub placed : List ℕ → ProgramHeader → Extent
-placed bytes header = record {
-  start = header.physical;
-  bytes = slice_range bytes header.offset (header.offset + header.file_size);
-}
+-- the header's bytes in the file
+abbrev pub contents : List ℕ → ProgramHeader → List ℕ
+contents bytes header = slice_range bytes header.offset (header.offset + header.file_size)
 
--- the segment of memory that a header places, if it does
-unfoldable pub segment_of : List ℕ → ProgramHeader → Option Extent
-segment_of bytes header =
-    if is_load header && not (is_passed_over header) && is_in_file bytes header && is_below_the_width header
-    then Some (placed bytes header) else None
+-- the segment of memory that the PT_LOAD header of a number places; none where it is passed over
+unfoldable pub segment_of : List ℕ → ℕ → ProgramHeader → Result (Option Extent) CoreFault
+segment_of bytes number header =
+    if is_passed_over header then Ok None else
+    (if not (is_in_file bytes header) then Err (SegmentRange number) else
+    (if not (is_below_the_width header) then Err (SegmentAddress number) else
+    Ok (Some (record { start = header.physical; bytes = contents bytes header }))))
+
+-- the bytes of the notes that the PT_NOTE header of a number names; a header without bytes has none, wherever it lies
+unfoldable pub notes_of : List ℕ → ℕ → ProgramHeader → Result (List ℕ) CoreFault
+notes_of bytes number header =
+    if header.file_size == 0 then Ok [] else
+    (if not (is_in_file bytes header) then Err (NoteRange number) else Ok (contents bytes header))

@@ -1,25 +1,19 @@
 //! A core, read from the bytes of its file.
 
-ghost use Rattle.std.specs.Prelude.{◌≡◌, Ok, IfOk, IfErr, IfSome, IsTrue, length, ◌≤◌, option_map};
-ghost use Rattle.paging_model.specs.Memory.{IsPlaced};
-ghost use Rattle.elf_core.specs.Extents.{extent};
-ghost use Rattle.elf_core.specs.Cores.{is_plain_file, is_plain_note_header, is_plain_state, is_plain_processor, stated_core, plain_core, core_of, IsRefusalOf, HasOneProcessor};
+ghost use Rattle.std.specs.Prelude.{◌≡◌, ◌+◌, ◌*◌, ◌<◌, ◌≤◌, Ok, Err, OnOk, IfOk, IfErr, length};
+ghost use Rattle.elf_core.specs.FileHeader.{e_phoff, e_phnum};
+ghost use Rattle.elf_core.specs.NoteViews.{parts};
+ghost use Rattle.elf_core.specs.Notes.{all_notes};
+ghost use Rattle.elf_core.specs.Cores.{blank_core, with_statement, after_note, after_notes, after_header, after_headers, numbers_from, core_of, IsRefusalOf, IsConsistent};
 
-use crate::fields::{half_at, xword_at};
-use crate::headers::{
-    E_PHENTSIZE, E_PHNUM, E_PHOFF, FILE_HEADER_SIZE, PROGRAM_HEADER_SIZE, PT_NOTE, ProgramHeader,
-    is_core, program_header_at,
-};
-use crate::notes::{MACHINE_NOTE_SIZE, PROCESSOR_NOTE_SIZE, machine_note, processor_note};
-use crate::processors::{Processor, Processors};
-use crate::segments::{Segment, Segments};
-use proc_regs::bit_ranges::bit;
-use proc_regs::register_bits::{
-    CR3_LAM_U48, CR3_LAM_U57, CR4_LA57, CR4_LAM_SUP, CR4_LASS, CR4_PKE, CR4_PKS, CR4_SMAP,
-};
-use proc_regs::{Machine, Regs};
+use crate::faults::CoreFault;
+use crate::headers::{PT_LOAD, PT_NOTE, check_file_header, header_count, program_header};
+use crate::notes::{FIELDS_SIZE, Note, first_note};
+use crate::processors::Processors;
+use crate::segments::Segments;
+use crate::state_notes::{Statement, is_state_note, machine_of, statement_of};
+use proc_regs::Machine;
 use std::alloc::{AllocError, Global};
-use thiserror::Error;
 
 /// What a core's file states: known memory, the machine and its processors.
 #[derive(Debug, Drop)]
@@ -27,134 +21,108 @@ pub struct Core<'a> {
     pub segments: Segments<'a>,
     /// Whether a note states the machine.
     pub stated: bool,
+    /// The machine that a note states, or else the one of 52 bits with 1-GByte pages.
     pub machine: Machine,
     pub processors: Processors,
 }
 
-/// Why there is no core.
-#[derive(Clone, Copy, Debug, PartialEq, Eq, Error)]
-pub enum CoreFault {
-    /// The file isn't of the one form that is read so far.
-    #[error("the file isn't a core of the one form that is read so far")]
-    NotBuilt,
-    /// Memory ran out.
-    #[error("out of memory")]
-    Memory,
-}
-
-// The places of a plain core's parts, one after another.
-const NOTE_HEADER: usize = FILE_HEADER_SIZE;
-
-const LOAD_HEADER: usize = NOTE_HEADER + PROGRAM_HEADER_SIZE;
-
-const MACHINE_NOTE: usize = LOAD_HEADER + PROGRAM_HEADER_SIZE;
-
-const PROCESSOR_NOTE: usize = MACHINE_NOTE + MACHINE_NOTE_SIZE;
-
-const NOTES_END: usize = PROCESSOR_NOTE + PROCESSOR_NOTE_SIZE;
-
-/// What a plain core is made of.
-#[derive(Clone, Copy)]
-struct Plain<'a> {
-    segment: Segment<'a>,
-    machine: Machine,
-    processor: Processor,
-}
-
-/// Whether two program headers and the notes stand where a plain core has them.
-#[tactic(auto, unfolding(crate::specs::Cores::is_plain_file))]
-fn is_plain_file(bytes: &[u8]) -> bool
-    ensures value { result ≡ is_plain_file bytes.now }
-    ensures long { IsTrue result → 296 ≤ length bytes.now }
-{
-    bytes.len() >= NOTES_END
-        && is_core(bytes)
-        && xword_at(bytes, E_PHOFF) == NOTE_HEADER as u64
-        && half_at(bytes, E_PHENTSIZE) == PROGRAM_HEADER_SIZE as u16
-        && half_at(bytes, E_PHNUM) == 2
-}
-
-/// Whether a program header names the two notes of a plain core.
-#[tactic(auto, unfolding(crate::specs::Cores::is_plain_note_header))]
-fn is_plain_note_header(header: &ProgramHeader) -> bool
-    ensures { result ≡ is_plain_note_header header.now }
-{
-    header.kind == PT_NOTE
-        && header.offset == MACHINE_NOTE as u64
-        && header.file_size == (NOTES_END - MACHINE_NOTE) as u64
-}
-
-/// Whether paging has 4 levels, and none of the protections and maskings that need more than the walk.
-#[tactic(auto, unfolding(crate::specs::Cores::is_plain_state))]
-fn is_plain_state(regs: &Regs) -> bool
-    ensures { result ≡ is_plain_state regs.now }
-{
-    !(bit(regs.cr4, CR4_LA57)
-        || bit(regs.cr4, CR4_SMAP)
-        || bit(regs.cr4, CR4_PKE)
-        || bit(regs.cr4, CR4_PKS)
-        || bit(regs.cr4, CR4_LASS)
-        || bit(regs.cr4, CR4_LAM_SUP)
-        || bit(regs.cr3, CR3_LAM_U57)
-        || bit(regs.cr3, CR3_LAM_U48))
-}
-
-/// Whether a processor is that of a plain core.
-fn is_plain_processor(processor: &Processor) -> bool
-    ensures { result ≡ is_plain_processor processor.now }
-{
-    processor.number == 0 && is_plain_state(&processor.regs)
-}
-
-/// The parts of a plain core, each at its place.
-#[tactic(auto, unfolding(crate::specs::Cores::plain_core, crate::specs::Cores::core_in_place))]
-fn plain_core(bytes: &[u8]) -> Option<Plain<'_>>
-    ensures value { option_map stated_core result ≡ plain_core bytes.now }
-    ensures placed { IfSome result (λ plain. IsPlaced (extent plain.segment)) }
-{
-    if !is_plain_file(bytes) || !is_plain_note_header(&program_header_at(bytes, NOTE_HEADER)) {
-        return None;
+impl<'a> Core<'a> {
+    /// What is known ahead of the first program header.
+    fn blank(alloc: Global) -> Core<'a>
+        ensures { result ≡ blank_core }
+    {
+        Core {
+            segments: Segments::new(alloc),
+            stated: false,
+            machine: machine_of(52, true),
+            processors: Processors::new(alloc),
+        }
     }
-    let segment = program_header_at(bytes, LOAD_HEADER).segment(bytes)?;
-    let machine = machine_note(bytes, MACHINE_NOTE)?;
-    let processor = processor_note(&machine, bytes, PROCESSOR_NOTE)?;
-    if !is_plain_processor(&processor) {
-        return None;
-    }
-    Some(Plain {
-        segment,
-        machine,
-        processor,
-    })
-}
 
-/// The core of its parts.
-fn core_with<'a>(alloc: Global, plain: Plain<'a>) -> Result<Core<'a>, AllocError>
-    requires { IsPlaced (extent plain.segment) }
-    ensures { IfOk result (λ core. core ≡ stated_core plain.entry) }
-{
-    let segments = vec![in alloc; plain.segment]?;
-    let processors = vec![in alloc; plain.processor]?;
-    Ok(Core {
-        segments: Segments::from_vec(segments),
-        stated: true,
-        machine: plain.machine,
-        processors: Processors::from_vec(processors),
-    })
+    /// Adds what a note states. An `Err` changes nothing.
+    fn add_statement(&mut self, statement: Statement) -> Result<(), AllocError>
+        ensures { OnOk result (self.new ≡ with_statement self.old statement) }
+    {
+        match statement {
+            Statement::Machine(machine) => {
+                self.stated = true;
+                self.machine = machine;
+            }
+            Statement::Processor(processor) => self.processors.push(processor)?,
+        }
+        Ok(())
+    }
+
+    /// Adds what a note under the header of a number states.
+    #[tactic(auto, unfolding(crate::specs::Cores::after_note))]
+    fn add_note(&mut self, number: u16, note: &Note<'_>) -> Result<(), CoreFault>
+        ensures ok { OnOk result (after_note number self.old (Some (parts note.now)) ≡ Ok self.new) }
+        ensures refused { IfErr result (IsRefusalOf (after_note number self.old (Some (parts note.now)))) }
+    {
+        if !is_state_note(note) {
+            return Ok(());
+        }
+        match statement_of(self, note) {
+            Ok(statement) => Ok(self.add_statement(statement)?),
+            Err(rule) => Err(CoreFault::NoteState(number, rule)),
+        }
+    }
+
+    /// Adds what the notes of a segment state, under the header of a number.
+    fn add_notes(&mut self, number: u16, bytes: &[u8]) -> Result<(), CoreFault>
+        ensures ok { OnOk result (after_notes number (all_notes bytes.now) self.old ≡ Ok self.new) }
+        ensures refused { IfErr result (IsRefusalOf (after_notes number (all_notes bytes.now) self.old)) }
+    {
+        let mut rest = bytes;
+        'notes: while rest.len() >= FIELDS_SIZE {
+            let Some((note, after)) = first_note(rest) else {
+                return Err(CoreFault::NoteRange(number));
+            };
+            self.add_note(number, &note)?;
+            rest = after;
+        }
+        Ok(())
+    }
+
+    /// Adds what the program header of a number tells.
+    #[tactic(auto, unfolding(crate::specs::Cores::after_header))]
+    fn add_header(&mut self, bytes: &'a [u8], number: u16) -> Result<(), CoreFault>
+        requires long { 64 ≤ length bytes.now }
+        requires headers { e_phoff bytes.now + 56 * e_phnum bytes.now ≤ length bytes.now }
+        requires number { number < e_phnum bytes.now }
+        ensures ok { OnOk result (after_header bytes.now self.old number ≡ Ok self.new) }
+        ensures refused { IfErr result (IsRefusalOf (after_header bytes.now self.old number)) }
+    {
+        let header = program_header(bytes, number);
+        match header.kind {
+            PT_LOAD => {
+                if let Some(segment) = header.segment(bytes, number)? {
+                    self.segments.push(segment)?;
+                }
+                Ok(())
+            }
+            PT_NOTE => self.add_notes(number, header.notes(bytes, number)?),
+            _ => Ok(()),
+        }
+    }
 }
 
 /// Reads a core. Its segments borrow their bytes from the file's.
 ///
 /// # Errors
 ///
-/// `NotBuilt` exactly where the file isn't a plain core: one with two program headers, the first for the notes of the
-/// machine and of processor 0, the second for a segment of memory. `Memory` where memory ran out.
+/// The first refusal in the order of the file, with the number of the program header that it is about; `Memory` where
+/// memory ran out.
 #[tactic(auto, unfolding(crate::specs::Cores::core_of))]
 pub fn parse<'a>(alloc: Global, bytes: &'a [u8]) -> Result<Core<'a>, CoreFault>
     ensures ok { IfOk result (λ core. core_of bytes.now ≡ Ok core) }
     ensures refused { IfErr result (IsRefusalOf (core_of bytes.now)) }
-    ensures one_processor { IfOk result HasOneProcessor }
+    ensures consistent { IfOk result IsConsistent }
 {
-    let plain = plain_core(bytes).ok_or(CoreFault::NotBuilt)?;
-    core_with(alloc, plain).map_err(|_| CoreFault::Memory)
+    check_file_header(bytes)?;
+    let mut core = Core::blank(alloc);
+    'headers: for number in 0..header_count(bytes) {
+        core.add_header(bytes, number)?;
+    }
+    Ok(core)
 }

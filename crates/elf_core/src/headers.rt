@@ -1,18 +1,19 @@
 //! The file header and the program headers.
 
-ghost use Rattle.std.specs.Prelude.{◌≡◌, ◌+◌, ◌≤◌, length, option_map, IfSome};
+ghost use Rattle.std.specs.Prelude.{◌≡◌, ◌+◌, ◌*◌, ◌<◌, ◌≤◌, length, option_map, IsTrue, ◌↔◌, OnOk, IfOk, IfErr, IfSome, Result, Ok, Err};
 ghost use Rattle.paging_model.specs.Memory.{IsPlaced};
 ghost use Rattle.elf_core.specs.Extents.{extent};
-ghost use Rattle.elf_core.specs.FileHeader.{is_core};
-ghost use Rattle.elf_core.specs.ProgramHeaders.{program_header_at, is_load, is_passed_over, is_in_file, is_below_the_width, segment_of};
+ghost use Rattle.elf_core.specs.FileHeader.{kind_check, table_check, file_header_check, e_phoff, e_phnum};
+ghost use Rattle.elf_core.specs.ProgramHeaders.{program_header_at, program_header, is_passed_over, is_in_file, is_below_the_width, contents, segment_of, notes_of};
 
+use crate::faults::CoreFault;
 use crate::fields::{half_at, word_at, xword_at};
 use crate::segments::Segment;
 
 /// The bytes of the file header.
-pub const FILE_HEADER_SIZE: usize = 64;
+const FILE_HEADER_SIZE: usize = 64;
 /// The bytes of one program header.
-pub const PROGRAM_HEADER_SIZE: usize = 56;
+const PROGRAM_HEADER_SIZE: u16 = 56;
 
 // The places of the file header's fields.
 const EI_CLASS: usize = 4;
@@ -22,12 +23,12 @@ const EI_DATA: usize = 5;
 const E_TYPE: usize = 16;
 
 const E_MACHINE: usize = 18;
-/// The place of the field that tells where the program headers begin, of 8 bytes.
-pub const E_PHOFF: usize = 32;
-/// The place of the field that tells the size of one program header, of 2 bytes.
-pub const E_PHENTSIZE: usize = 54;
-/// The place of the field that tells how many program headers there are, of 2 bytes.
-pub const E_PHNUM: usize = 56;
+
+const E_PHOFF: usize = 32;
+
+const E_PHENTSIZE: usize = 54;
+
+const E_PHNUM: usize = 56;
 
 // The places of a program header's fields, from its start.
 const P_TYPE: usize = 0;
@@ -48,6 +49,8 @@ const LITTLE_ENDIAN: u8 = 1;
 const TYPE_CORE: u16 = 4;
 /// e_machine of x86-64.
 const MACHINE_X86_64: u16 = 62;
+/// e_phnum where the number of program headers stands elsewhere.
+const COUNT_ELSEWHERE: u16 = 0xffff;
 /// p_type of memory.
 pub const PT_LOAD: u32 = 1;
 /// p_type of notes.
@@ -56,6 +59,85 @@ pub const PT_NOTE: u32 = 4;
 const NO_ADDRESS: u64 = u64::MAX;
 /// The end of physical memory at the greatest width.
 const MEMORY_END: u64 = 1 << 52;
+
+/// Whether a range of so many items from a place on ends at an end or before it.
+fn ends_within(end: u64, place: u64, size: u64) -> bool
+    ensures { IsTrue result ↔ (place + size ≤ end) }
+{
+    place <= end && size <= end - place
+}
+
+/// Whether the file is a little-endian core of a 64-bit x86 machine.
+#[tactic(auto, unfolding(crate::specs::FileHeader::kind_check))]
+fn check_kind(bytes: &[u8]) -> Result<(), CoreFault>
+    ensures value { result ≡ kind_check bytes.now }
+    ensures long { OnOk result (64 ≤ length bytes.now) }
+{
+    if bytes.len() < FILE_HEADER_SIZE {
+        return Err(CoreFault::Short);
+    }
+    if !bytes.starts_with(&MAGIC) {
+        return Err(CoreFault::NotElf);
+    }
+    if bytes[EI_CLASS] != CLASS_64 {
+        return Err(CoreFault::Class);
+    }
+    if bytes[EI_DATA] != LITTLE_ENDIAN {
+        return Err(CoreFault::Encoding);
+    }
+    if half_at(bytes, E_TYPE) != TYPE_CORE {
+        return Err(CoreFault::FileType);
+    }
+    if half_at(bytes, E_MACHINE) != MACHINE_X86_64 {
+        return Err(CoreFault::FileMachine);
+    }
+    Ok(())
+}
+
+/// Whether the program headers lie in the file.
+#[tactic(auto, unfolding(crate::specs::FileHeader::table_check))]
+fn check_table(bytes: &[u8]) -> Result<(), CoreFault>
+    requires { 64 ≤ length bytes.now }
+    ensures value { result ≡ table_check bytes.now }
+    ensures headers { OnOk result (e_phoff bytes.now + 56 * e_phnum bytes.now ≤ length bytes.now) }
+{
+    if half_at(bytes, E_PHENTSIZE) != PROGRAM_HEADER_SIZE {
+        return Err(CoreFault::HeaderSize);
+    }
+    let count = half_at(bytes, E_PHNUM);
+    if count == COUNT_ELSEWHERE {
+        return Err(CoreFault::HeaderCount);
+    }
+    let size = PROGRAM_HEADER_SIZE as u64 * count as u64;
+    if !ends_within(bytes.len() as u64, xword_at(bytes, E_PHOFF), size) {
+        return Err(CoreFault::HeaderRange);
+    }
+    Ok(())
+}
+
+/// Whether the file header is that of a little-endian core of a 64-bit x86 machine, with its program headers in the
+/// file.
+///
+/// # Errors
+///
+/// The first rule that the header breaks.
+#[tactic(auto, unfolding(crate::specs::FileHeader::file_header_check))]
+pub fn check_file_header(bytes: &[u8]) -> Result<(), CoreFault>
+    ensures value { result ≡ file_header_check bytes.now }
+    ensures long { OnOk result (64 ≤ length bytes.now) }
+    ensures headers { OnOk result (e_phoff bytes.now + 56 * e_phnum bytes.now ≤ length bytes.now) }
+{
+    check_kind(bytes)?;
+    check_table(bytes)
+}
+
+/// How many program headers a file header tells.
+pub fn header_count(bytes: &[u8]) -> u16
+    requires { 64 ≤ length bytes.now }
+    ensures { result ≡ e_phnum bytes.now }
+{
+    half_at(bytes, E_PHNUM)
+}
 
 /// What is read of a program header.
 #[derive(Clone, Copy, Debug, PartialEq, Eq)]
@@ -70,20 +152,8 @@ pub struct ProgramHeader {
     pub file_size: u64,
 }
 
-/// Whether the file header is that of a little-endian core of a 64-bit x86 machine.
-pub fn is_core(bytes: &[u8]) -> bool
-    requires { 64 ≤ length bytes.now }
-    ensures { result ≡ is_core bytes.now }
-{
-    bytes.starts_with(&MAGIC)
-        && bytes[EI_CLASS] == CLASS_64
-        && bytes[EI_DATA] == LITTLE_ENDIAN
-        && half_at(bytes, E_TYPE) == TYPE_CORE
-        && half_at(bytes, E_MACHINE) == MACHINE_X86_64
-}
-
 /// Reads the program header at a place.
-pub fn program_header_at(bytes: &[u8], place: usize) -> ProgramHeader
+fn program_header_at(bytes: &[u8], place: usize) -> ProgramHeader
     requires { place + 56 ≤ length bytes.now }
     ensures { result ≡ program_header_at bytes.now place }
 {
@@ -95,46 +165,97 @@ pub fn program_header_at(bytes: &[u8], place: usize) -> ProgramHeader
     }
 }
 
+/// Reads the program header of a number, from 0 on.
+pub fn program_header(bytes: &[u8], number: u16) -> ProgramHeader
+    requires long { 64 ≤ length bytes.now }
+    requires headers { e_phoff bytes.now + 56 * e_phnum bytes.now ≤ length bytes.now }
+    requires number { number < e_phnum bytes.now }
+    ensures { result ≡ program_header bytes.now number }
+{
+    let table = xword_at(bytes, E_PHOFF) as usize;
+    program_header_at(
+        bytes,
+        table + PROGRAM_HEADER_SIZE as usize * number as usize,
+    )
+}
+
 impl ProgramHeader {
     /// Whether the header is one of memory that says nothing: without bytes in the file, or without an address.
-    pub fn is_passed_over(&self) -> bool
+    fn is_passed_over(&self) -> bool
         ensures { result ≡ is_passed_over self.now }
     {
         self.file_size == 0 || self.physical == NO_ADDRESS
     }
 
     /// Whether all bytes of the header lie in the file.
-    pub fn is_in_file(&self, bytes: &[u8]) -> bool
+    fn is_in_file(&self, bytes: &[u8]) -> bool
         ensures { result ≡ is_in_file bytes.now self.now }
     {
-        let length = bytes.len() as u64;
-        self.offset <= length && self.file_size <= length - self.offset
+        ends_within(bytes.len() as u64, self.offset, self.file_size)
     }
 
     /// Whether the memory that the header places ends below the greatest physical width.
-    pub fn is_below_the_width(&self) -> bool
+    fn is_below_the_width(&self) -> bool
         ensures { result ≡ is_below_the_width self.now }
     {
-        self.physical <= MEMORY_END && self.file_size <= MEMORY_END - self.physical
+        ends_within(MEMORY_END, self.physical, self.file_size)
     }
 
-    /// The segment that the header places, if it does: its bytes are borrowed from the file's.
-    #[tactic(auto, unfolding(crate::specs::ProgramHeaders::segment_of))]
-    pub fn segment<'a>(&self, bytes: &'a [u8]) -> Option<Segment<'a>>
-        ensures value { option_map extent result ≡ segment_of bytes.now self.now }
-        ensures placed { IfSome result (λ segment. IsPlaced (extent segment)) }
+    /// The header's bytes, borrowed from the file's.
+    fn contents<'a>(&self, bytes: &'a [u8]) -> &'a [u8]
+        requires { self.now.offset + self.now.file_size ≤ length bytes.now }
+        ensures { result.now ≡ contents bytes.now self.now }
     {
-        if self.kind != PT_LOAD || self.is_passed_over() {
-            return None;
-        }
-        if !self.is_in_file(bytes) || !self.is_below_the_width() {
-            return None;
-        }
         let start = self.offset as usize;
-        let end = start + self.file_size as usize;
-        Some(Segment {
+        &bytes[start..start + self.file_size as usize]
+    }
+
+    /// The segment of memory that the header places. There is none where it is passed over.
+    ///
+    /// # Errors
+    ///
+    /// The segment passes the end of the file, or else the greatest physical width.
+    #[tactic(auto, unfolding(crate::specs::ProgramHeaders::segment_of))]
+    pub fn segment<'a>(
+        &self,
+        bytes: &'a [u8],
+        number: u16,
+    ) -> Result<Option<Segment<'a>>, CoreFault>
+        ensures ok { IfOk result (λ segment. segment_of bytes.now number self.now ≡ Ok (option_map extent segment)) }
+        ensures refused { IfErr result (λ fault. segment_of bytes.now number self.now ≡ Err fault) }
+        ensures placed { IfOk result (λ segment. IfSome segment (λ segment. IsPlaced (extent segment))) }
+    {
+        if self.is_passed_over() {
+            return Ok(None);
+        }
+        if !self.is_in_file(bytes) {
+            return Err(CoreFault::SegmentRange(number));
+        }
+        if !self.is_below_the_width() {
+            return Err(CoreFault::SegmentAddress(number));
+        }
+        Ok(Some(Segment {
             phys: self.physical,
-            bytes: &bytes[start..end],
-        })
+            bytes: self.contents(bytes),
+        }))
+    }
+
+    /// The bytes of the notes that the header names.
+    ///
+    /// # Errors
+    ///
+    /// They pass the end of the file.
+    #[tactic(auto, unfolding(crate::specs::ProgramHeaders::notes_of))]
+    pub fn notes<'a>(&self, bytes: &'a [u8], number: u16) -> Result<&'a [u8], CoreFault>
+        ensures ok { IfOk result (λ notes. notes_of bytes.now number self.now ≡ Ok notes.now) }
+        ensures refused { IfErr result (λ fault. notes_of bytes.now number self.now ≡ Err fault) }
+    {
+        if self.file_size == 0 {
+            return Ok(&[]);
+        }
+        if !self.is_in_file(bytes) {
+            return Err(CoreFault::NoteRange(number));
+        }
+        Ok(self.contents(bytes))
     }
 }

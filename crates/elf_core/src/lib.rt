@@ -5,13 +5,16 @@
 #![tactic(auto)]
 
 pub mod core_file;
+pub mod faults;
 pub mod fields;
 pub mod headers;
 pub mod notes;
 pub mod processors;
 pub mod segments;
+pub mod state_notes;
 
-pub use core_file::{Core, CoreFault, parse};
+pub use core_file::{Core, parse};
+pub use faults::{CoreFault, NoteRule};
 pub use processors::{Processor, Processors};
 pub use segments::{Segment, Segments};
 

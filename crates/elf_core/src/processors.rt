@@ -1,8 +1,10 @@
 //! The processors of a core, with their registers.
 
-ghost use Rattle.std.specs.Prelude.{◌≡◌};
+ghost use Rattle.std.specs.Prelude.{◌≡◌, ◌++◌, [], ◌∷◌, OnOk, OnErr};
+ghost use Rattle.std.specs.List.{list_any};
 
 use proc_regs::Regs;
+use std::alloc::{AllocError, Global};
 use std::marker::Model;
 
 /// A processor by its number.
@@ -28,6 +30,17 @@ impl Model for Processors {
 }
 
 impl Processors {
+    ghost use Rattle.elf_core.specs.ProcessorLists.{has_number};
+
+    /// No processors.
+    pub fn new(alloc: Global) -> Processors
+        ensures { result ≡ [] }
+    {
+        Processors {
+            items: Vec::new(alloc),
+        }
+    }
+
     /// Takes the list over.
     pub fn from_vec(items: Vec<Processor>) -> Processors
         ensures { result ≡ items.items }
@@ -40,5 +53,23 @@ impl Processors {
         ensures { result.now ≡ self.now }
     {
         self.items.as_slice()
+    }
+
+    /// Whether there is a processor of a number.
+    pub fn has_number(&self, number: u32) -> bool
+        ensures { result ≡ list_any (has_number number) self.now }
+    {
+        self.items
+            .iter()
+            .any(|processor| processor.number == number)
+    }
+
+    /// Adds a processor behind the others. An `Err` changes nothing.
+    pub fn push(&mut self, processor: Processor) -> Result<(), AllocError>
+        ensures ok { OnOk result (self.new ≡ self.old ++ processor ∷ []) }
+        ensures err { OnErr result (self.new ≡ self.old) }
+    {
+        self.items.push(processor)?;
+        Ok(())
     }
 }

@@ -1,8 +1,9 @@
 //! The parts of a core that are known memory.
 
-ghost use Rattle.std.specs.Prelude.{◌≡◌, All};
+ghost use Rattle.std.specs.Prelude.{◌≡◌, ◌++◌, [], ◌∷◌, All, OnOk, OnErr};
 ghost use Rattle.paging_model.specs.Memory.{IsPlaced};
 
+use std::alloc::{AllocError, Global};
 use std::marker::Model;
 
 /// A part of a core's file, and the physical address of its first byte.
@@ -33,7 +34,16 @@ impl<'a> Model for Segments<'a> {
 }
 
 impl<'a> Segments<'a> {
-    ghost use Rattle.elf_core.specs.Extents.{extents};
+    ghost use Rattle.elf_core.specs.Extents.{extent, extents};
+
+    /// No segments.
+    pub fn new(alloc: Global) -> Segments<'a>
+        ensures { result ≡ [] }
+    {
+        Segments {
+            items: Vec::new(alloc),
+        }
+    }
 
     /// Takes the list over.
     pub fn from_vec(items: Vec<Segment<'a>>) -> Segments<'a>
@@ -49,5 +59,15 @@ impl<'a> Segments<'a> {
         ensures placed { All IsPlaced self.now }
     {
         self.items.as_slice()
+    }
+
+    /// Adds a segment behind the others. An `Err` changes nothing.
+    pub fn push(&mut self, segment: Segment<'a>) -> Result<(), AllocError>
+        requires { IsPlaced (extent segment) }
+        ensures ok { OnOk result (self.new ≡ self.old ++ extent segment.entry ∷ []) }
+        ensures err { OnErr result (self.new ≡ self.old) }
+    {
+        self.items.push(segment)?;
+        Ok(())
     }
 }

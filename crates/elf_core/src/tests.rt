@@ -1,7 +1,8 @@
 //! Cores built by hand, field by field.
 
 use super::*;
-use proc_regs::{Machine, Regs};
+use crate::headers::ProgramHeader;
+use proc_regs::{Machine, RegRule, Regs};
 use std::alloc::{AllocError, Global};
 use std::test::Fail;
 
@@ -56,67 +57,76 @@ const FIELDS: [(usize, usize, u64); 36] = [
     (296 + 0x4008, 8, 0x6005),
 ];
 
-/// Changes of one byte after which the core isn't plain.
-const NOT_PLAIN: [(usize, u64); 49] = [
-    // The file header: magic, class, encoding, type, machine, and where the program headers stand.
-    (0, 0x7e),
-    (3, 0x47),
-    (4, 1),
-    (5, 2),
-    (16, 3),
-    (17, 1),
-    (18, 3),
-    (32, 65),
-    (39, 1),
-    (54, 57),
-    (56, 3),
-    (57, 1),
-    // The program header of the notes: type, place and size.
-    (64, 1),
-    (72, 177),
-    (96, 121),
-    // That of the segment: type, place, physical address past 2 to the 52, size past the end and 0.
-    (120, 4),
-    (128, 41),
-    (135, 0x80),
-    (150, 0x10),
-    (152, 1),
-    (154, 0),
-    (159, 0x80),
-    // The note of the machine: sizes, type, owner, width and 1-GByte pages.
-    (176, 11),
-    (180, 9),
-    (184, 2),
-    (188, 0x59),
-    (197, 1),
-    (200, 31),
-    (200, 53),
-    (201, 1),
-    (204, 2),
-    // The note of the processor: sizes, type, owner, number and a field that is 0.
-    (208, 9),
-    (212, 65),
-    (216, 1),
-    (228, 0x54),
-    (232, 1),
-    (236, 1),
-    // Its registers: paging off, a bit of CR3 past the width, masking, CR4 bits, no IA-32e mode.
-    (240, 0),
-    (253, 1),
-    (255, 0x20),
-    (255, 0x40),
-    (255, 0x80),
-    (256, 0),
-    (257, 0x10),
-    (258, 0x20),
-    (259, 0x08),
-    (265, 0x0c),
-    (288, 1),
-    (295, 1),
+/// Changes of one field after which the example is refused: place, size in bytes, value, and why.
+const REFUSED: [(usize, usize, u64, CoreFault); 33] = [
+    // The file header.
+    (0, 1, 0x7e, CoreFault::NotElf),
+    (3, 1, 0x47, CoreFault::NotElf),
+    (4, 1, 1, CoreFault::Class),
+    (5, 1, 2, CoreFault::Encoding),
+    (16, 2, 3, CoreFault::FileType),
+    (16, 2, 0x104, CoreFault::FileType),
+    (18, 2, 3, CoreFault::FileMachine),
+    (54, 2, 57, CoreFault::HeaderSize),
+    (56, 2, 0xffff, CoreFault::HeaderCount),
+    (56, 2, 0xfffe, CoreFault::HeaderRange),
+    (32, 8, 65_721, CoreFault::HeaderRange),
+    // A sum that 64 bits don't hold.
+    (32, 8, 0xffff_ffff_ffff_ff90, CoreFault::HeaderRange),
+    // The program header of the segment.
+    (128, 8, 297, CoreFault::SegmentRange(1)),
+    (128, 8, 0xffff_ffff_ffff_0000, CoreFault::SegmentRange(1)),
+    (144, 8, 0xf_ffff_ffff_0001, CoreFault::SegmentAddress(1)),
+    (144, 8, 0xffff_ffff_ffff_fffe, CoreFault::SegmentAddress(1)),
+    // The program header of the notes.
+    (72, 8, 65_713, CoreFault::NoteRange(0)),
+    (72, 8, 0xffff_ffff_ffff_ffff, CoreFault::NoteRange(0)),
+    // The note of the machine.
+    (176, 4, 109, CoreFault::NoteRange(0)),
+    (180, 4, 97, CoreFault::NoteRange(0)),
+    (180, 4, 96, CoreFault::NoteState(0, NoteRule::Size)),
+    (184, 4, 3, CoreFault::NoteState(0, NoteRule::Kind)),
+    (200, 4, 31, CoreFault::NoteState(0, NoteRule::Range)),
+    (200, 4, 53, CoreFault::NoteState(0, NoteRule::Range)),
+    (204, 4, 2, CoreFault::NoteState(0, NoteRule::Range)),
+    // The note of the processor.
+    (212, 4, 60, CoreFault::NoteState(0, NoteRule::Size)),
+    (236, 4, 1, CoreFault::NoteState(0, NoteRule::Zero)),
+    (295, 1, 1, CoreFault::NoteState(0, NoteRule::Zero)),
+    (
+        240,
+        8,
+        1,
+        CoreFault::NoteState(0, NoteRule::Regs(RegRule::PagingOff)),
+    ),
+    (
+        264,
+        8,
+        0x100,
+        CoreFault::NoteState(0, NoteRule::Regs(RegRule::NotLong)),
+    ),
+    (
+        256,
+        8,
+        0,
+        CoreFault::NoteState(0, NoteRule::Regs(RegRule::NoPae)),
+    ),
+    (
+        248,
+        8,
+        1 << 40,
+        CoreFault::NoteState(0, NoteRule::Regs(RegRule::Cr3Reserved)),
+    ),
+    (
+        248,
+        8,
+        1 << 63,
+        CoreFault::NoteState(0, NoteRule::Regs(RegRule::Cr3Reserved)),
+    ),
 ];
 
 /// Changes of one byte in fields that aren't looked at: e_entry, p_flags, p_memsz, p_align, padding, RFLAGS.CF, CR4.PGE.
-const STILL_PLAIN: [(usize, u64); 9] = [
+const NOT_LOOKED_AT: [(usize, u64); 9] = [
     (6, 1),
     (24, 1),
     (68, 7),
@@ -127,6 +137,17 @@ const STILL_PLAIN: [(usize, u64); 9] = [
     (272, 0x3),
     (256, 0xa0),
 ];
+
+/// The registers of the example's processor.
+const REGS: Regs = Regs {
+    cr0: 0x8001_0001,
+    cr3: 0x1000,
+    cr4: 0x20,
+    efer: 0xd00,
+    ac: false,
+    pkru: 0,
+    pkrs: 0,
+};
 
 fn put(file: &mut [u8], place: usize, size: usize, value: u64) {
     for (byte, new) in file
@@ -147,24 +168,85 @@ fn example(alloc: Global) -> Result<Vec<u8>, AllocError> {
     Ok(file)
 }
 
+/// A file of these program headers from 64 on, and of these bytes behind them.
+fn file_of(alloc: Global, headers: &[ProgramHeader], bytes: &[u8]) -> Result<Vec<u8>, AllocError> {
+    let mut file = vec![in alloc; 0; 64]?;
+    for (place, size, value) in FIELDS {
+        put(&mut file, place, size, value);
+    }
+    put(&mut file, 56, 2, headers.len() as u64);
+    for header in headers {
+        let mut fields = [0; 56];
+        put(&mut fields, 0, 4, header.kind as u64);
+        put(&mut fields, 8, 8, header.offset);
+        put(&mut fields, 24, 8, header.physical);
+        put(&mut fields, 32, 8, header.file_size);
+        file.extend_from_slice(&fields)?;
+    }
+    file.extend_from_slice(bytes)?;
+    Ok(file)
+}
+
+/// A file of these notes alone, under its only program header.
+fn file_of_notes(alloc: Global, notes: &[u8]) -> Result<Vec<u8>, AllocError> {
+    let header = ProgramHeader {
+        kind: 4,
+        offset: 120,
+        physical: 0,
+        file_size: notes.len() as u64,
+    };
+    file_of(alloc, &[header], notes)
+}
+
+/// Adds a note, with padding behind its name and its description.
+fn add_note(
+    notes: &mut Vec<u8>,
+    name: &[u8],
+    kind: u64,
+    description: &[u8],
+) -> Result<(), AllocError> {
+    let mut fields = [0; 12];
+    put(&mut fields, 0, 4, name.len() as u64);
+    put(&mut fields, 4, 4, description.len() as u64);
+    put(&mut fields, 8, 4, kind);
+    notes.extend_from_slice(&fields)?;
+    for part in [name, description] {
+        notes.extend_from_slice(part)?;
+        notes.extend_from_slice(&[0; 3][(part.len() + 3) % 4..])?;
+    }
+    Ok(())
+}
+
+fn add_machine(notes: &mut Vec<u8>, m: u64, big: u64) -> Result<(), AllocError> {
+    let mut description = [0; 8];
+    put(&mut description, 0, 4, m);
+    put(&mut description, 4, 4, big);
+    add_note(notes, b"X86RIGHTS\0", 1, &description)
+}
+
+fn add_processor(notes: &mut Vec<u8>, number: u64, cr3: u64) -> Result<(), AllocError> {
+    let mut description = [0; 64];
+    put(&mut description, 0, 4, number);
+    put(&mut description, 8, 8, 0x8001_0001);
+    put(&mut description, 16, 8, cr3);
+    put(&mut description, 24, 8, 0x20);
+    put(&mut description, 32, 8, 0xd00);
+    add_note(notes, b"X86RIGHTS\0", 2, &description)
+}
+
 #[test]
 fn reads_the_example(rt: HostRuntime) -> Result<(), Fail> {
     let file = example(rt.alloc())?;
     let core = parse(rt.alloc(), &file)?;
     assert!(rt; core.stated);
     assert_eq!(rt; core.machine, Machine { m: 40, big: true });
-    let regs = Regs {
-        cr0: 0x8001_0001,
-        cr3: 0x1000,
-        cr4: 0x20,
-        efer: 0xd00,
-        ac: false,
-        pkru: 0,
-        pkrs: 0,
-    };
     assert_eq!(rt;
         core.processors.as_slice(),
-        [Processor { number: 0, regs }].as_slice()
+        [Processor {
+            number: 0,
+            regs: REGS
+        }]
+        .as_slice()
     );
     let segments = core.segments.as_slice();
     assert_eq!(rt; segments.len(), 1);
@@ -179,85 +261,289 @@ fn reads_the_example(rt: HostRuntime) -> Result<(), Fail> {
 #[test]
 fn keeps_each_register(rt: HostRuntime) -> Result<(), Fail> {
     let mut file = example(rt.alloc())?;
-    put(&mut file, 144, 8, 0xf_ffff_fffe_0000);
+    put(&mut file, 144, 8, 0xf_ffff_ffff_0000);
     put(&mut file, 200, 8, 52);
     put(&mut file, 240, 8, 0xffff_ffff_8000_0001);
-    put(&mut file, 248, 8, 0xf_ffff_ffff_ffff);
+    put(&mut file, 248, 8, 0x6fff_ffff_ffff_ffff);
+    put(&mut file, 256, 8, 0xffff_ffff_ffff_ffff);
     put(&mut file, 264, 8, 0x500);
     put(&mut file, 272, 8, 0x4_0000);
     put(&mut file, 280, 8, 0x0000_0002_0000_0001);
+    let core = parse(rt.alloc(), &file);
+    assert_eq!(rt;
+        core.err(),
+        Some(CoreFault::NoteState(0, NoteRule::Regs(RegRule::Cr3Reserved)))
+    );
+    put(&mut file, 248, 8, 0x600f_ffff_ffff_ffff);
     let core = parse(rt.alloc(), &file)?;
     assert_eq!(rt; core.machine, Machine { m: 52, big: false });
     let processors = core.processors.as_slice();
     assert_eq!(rt; processors.len(), 1);
     let regs = processors[0].regs;
     assert_eq!(rt; regs.cr0, 0xffff_ffff_8000_0001);
-    assert_eq!(rt; regs.cr3, 0xf_ffff_ffff_ffff);
+    assert_eq!(rt; regs.cr3, 0x600f_ffff_ffff_ffff);
+    assert_eq!(rt; regs.cr4, 0xffff_ffff_ffff_ffff);
     assert_eq!(rt; regs.efer, 0x500);
     assert!(rt; regs.ac);
     assert_eq!(rt; (regs.pkru, regs.pkrs), (1, 2));
     let segments = core.segments.as_slice();
     assert_eq!(rt; segments.len(), 1);
-    assert_eq!(rt; segments[0].phys, 0xf_ffff_fffe_0000);
+    assert_eq!(rt; segments[0].phys, 0xf_ffff_ffff_0000);
     Ok(())
 }
 
 #[test]
-fn tells_plain_cores(rt: HostRuntime) -> Result<(), Fail> {
-    for (place, value) in NOT_PLAIN {
+fn refuses_by_the_first_rule(rt: HostRuntime) -> Result<(), Fail> {
+    for (place, size, value, fault) in REFUSED {
+        let mut file = example(rt.alloc())?;
+        put(&mut file, place, size, value);
+        let refusal = parse(rt.alloc(), &file).err();
+        assert_eq!(rt; refusal, Some(fault), "{value:#x} at {place}");
+    }
+    for (place, value) in NOT_LOOKED_AT {
         let mut file = example(rt.alloc())?;
         put(&mut file, place, 1, value);
-        let fault = parse(rt.alloc(), &file).err();
-        assert_eq!(rt; fault, Some(CoreFault::NotBuilt), "{value:#x} at {place}");
+        let refusal = parse(rt.alloc(), &file).err();
+        assert_eq!(rt; refusal, None, "{value:#x} at {place}");
     }
-    for (place, value) in STILL_PLAIN {
-        let mut file = example(rt.alloc())?;
-        put(&mut file, place, 1, value);
-        assert_eq!(rt;
-            parse(rt.alloc(), &file).err(),
-            None,
-            "{value:#x} at {place}"
-        );
-    }
+    // The segment is out of both ranges.
     let mut file = example(rt.alloc())?;
-    put(&mut file, 144, 8, u64::MAX);
+    put(&mut file, 128, 8, 297);
+    put(&mut file, 144, 8, 1 << 52);
     assert_eq!(rt;
         parse(rt.alloc(), &file).err(),
-        Some(CoreFault::NotBuilt),
-        "no address"
+        Some(CoreFault::SegmentRange(1))
     );
     Ok(())
 }
 
 #[test]
-fn tells_short_files(rt: HostRuntime) -> Result<(), Fail> {
-    for length in [0, 63, 64, 176, 295, 296, SIZE - 1] {
+fn refuses_files_cut_short(rt: HostRuntime) -> Result<(), Fail> {
+    for (length, fault) in [
+        (0, CoreFault::Short),
+        (63, CoreFault::Short),
+        (100, CoreFault::HeaderRange),
+        (175, CoreFault::HeaderRange),
+        (176, CoreFault::NoteRange(0)),
+        (65_831, CoreFault::SegmentRange(1)),
+    ] {
         let mut file = example(rt.alloc())?;
         file.truncate(length);
-        let fault = parse(rt.alloc(), &file).err();
-        assert_eq!(rt; fault, Some(CoreFault::NotBuilt), "{length} bytes");
+        let refusal = parse(rt.alloc(), &file).err();
+        assert_eq!(rt; refusal, Some(fault), "{length} bytes");
     }
-    // A segment of the file's own header, in a file that ends with its notes.
-    let mut file = example(rt.alloc())?;
-    file.truncate(296);
-    put(&mut file, 128, 8, 0);
-    put(&mut file, 152, 8, 296);
+    Ok(())
+}
+
+#[test]
+fn passes_over_what_says_nothing(rt: HostRuntime) -> Result<(), Fail> {
+    let mut bytes = Vec::new(rt.alloc());
+    add_note(&mut bytes, b"CORE\0", 1, &[0; 8])?;
+    add_note(&mut bytes, b"QEMU\0", 0, &[0; 8])?;
+    assert_eq!(rt; bytes.len(), 56);
+    for value in [0, 0xff] {
+        let memory = vec![in rt.alloc(); value; 65_536]?;
+        bytes.extend_from_slice(&memory)?;
+    }
+    let notes = ProgramHeader {
+        kind: 4,
+        offset: 288,
+        physical: 0,
+        file_size: 56,
+    };
+    let first = ProgramHeader {
+        kind: 1,
+        offset: 344,
+        physical: 0,
+        file_size: 65_536,
+    };
+    let second = ProgramHeader {
+        kind: 1,
+        offset: 65_880,
+        physical: 0x8000,
+        file_size: 65_536,
+    };
+    let without_bytes = ProgramHeader {
+        kind: 1,
+        offset: u64::MAX,
+        physical: 0x10_0000,
+        file_size: 0,
+    };
+    let without_address = ProgramHeader {
+        kind: 1,
+        offset: u64::MAX,
+        physical: u64::MAX,
+        file_size: 1,
+    };
+    let without_notes = ProgramHeader {
+        kind: 4,
+        offset: u64::MAX,
+        physical: 0,
+        file_size: 0,
+    };
+    let foreign = ProgramHeader {
+        kind: 6,
+        offset: u64::MAX,
+        physical: 0,
+        file_size: 1,
+    };
+    let mut file = file_of(rt.alloc(), &[notes, first, second, without_bytes], &bytes)?;
+    put(&mut file, 64 + 3 * 56 + 40, 8, 0x1000);
     let core = parse(rt.alloc(), &file)?;
+    assert!(rt; !core.stated);
+    assert_eq!(rt; core.machine, Machine { m: 52, big: true });
+    assert!(rt; core.processors.as_slice().is_empty());
     let segments = core.segments.as_slice();
-    assert_eq!(rt; segments.len(), 1);
-    assert_eq!(rt; segments[0].bytes, file.as_slice());
+    assert_eq!(rt; segments.len(), 2);
+    assert_eq!(rt; (segments[0].phys, segments[1].phys), (0, 0x8000));
+    assert_eq!(rt;
+        (segments[0].bytes.len(), segments[1].bytes.len()),
+        (65_536, 65_536)
+    );
+    assert_eq!(rt; (segments[0].bytes[0], segments[0].bytes[65_535]), (0, 0));
+    assert_eq!(rt;
+        (segments[1].bytes[0], segments[1].bytes[65_535]),
+        (0xff, 0xff)
+    );
+    let file = file_of(rt.alloc(), &[without_address, without_notes, foreign], &[])?;
+    let core = parse(rt.alloc(), &file)?;
+    assert!(rt; core.segments.as_slice().is_empty());
+    Ok(())
+}
+
+#[test]
+fn reads_notes_to_their_end(rt: HostRuntime) -> Result<(), Fail> {
+    // A name of six bytes, without a description and with less padding than it wants.
+    let mut notes = Vec::new(rt.alloc());
+    add_machine(&mut notes, 46, 0)?;
+    add_note(&mut notes, b"VMCORE", 0, &[])?;
+    notes.truncate(51);
+    let file = file_of_notes(rt.alloc(), &notes)?;
+    let core = parse(rt.alloc(), &file)?;
+    assert_eq!(rt; core.machine, Machine { m: 46, big: false });
+    // One byte of the name is missing.
+    notes.truncate(49);
+    let file = file_of_notes(rt.alloc(), &notes)?;
+    assert_eq!(rt;
+        parse(rt.alloc(), &file).err(),
+        Some(CoreFault::NoteRange(0))
+    );
+    // Fewer bytes than the fields of a note.
+    notes.truncate(43);
+    let file = file_of_notes(rt.alloc(), &notes)?;
+    assert_eq!(rt; parse(rt.alloc(), &file).err(), None);
+    // Owners whose name begins alike, or lacks its NUL.
+    let mut notes = Vec::new(rt.alloc());
+    add_note(&mut notes, b"X86RIGHTS", 3, &[])?;
+    add_note(&mut notes, b"X86RIGHTS\0\0", 3, &[1, 2, 3])?;
+    add_note(&mut notes, b"", 3, &[1])?;
+    add_processor(&mut notes, 7, 0x1000)?;
+    let file = file_of_notes(rt.alloc(), &notes)?;
+    let core = parse(rt.alloc(), &file)?;
+    assert_eq!(rt;
+        core.processors.as_slice(),
+        [Processor {
+            number: 7,
+            regs: REGS
+        }]
+        .as_slice()
+    );
+    Ok(())
+}
+
+#[test]
+fn states_each_thing_once(rt: HostRuntime) -> Result<(), Fail> {
+    let mut notes = Vec::new(rt.alloc());
+    add_machine(&mut notes, 40, 1)?;
+    add_machine(&mut notes, 40, 1)?;
+    let file = file_of_notes(rt.alloc(), &notes)?;
+    let refusal = parse(rt.alloc(), &file).err();
+    assert_eq!(rt; refusal, Some(CoreFault::NoteState(0, NoteRule::Twice)));
+    let mut notes = Vec::new(rt.alloc());
+    add_processor(&mut notes, 5, 0xf_ffff_ffff_f000)?;
+    add_processor(&mut notes, 4, 0x1000)?;
+    let file = file_of_notes(rt.alloc(), &notes)?;
+    let core = parse(rt.alloc(), &file)?;
+    assert_eq!(rt; core.stated, false);
+    let processors = core.processors.as_slice();
+    assert_eq!(rt; processors.len(), 2);
+    assert_eq!(rt; (processors[0].number, processors[1].number), (5, 4));
+    let mut late = notes.clone()?;
+    add_machine(&mut late, 40, 1)?;
+    let file = file_of_notes(rt.alloc(), &late)?;
+    let refusal = parse(rt.alloc(), &file).err();
+    assert_eq!(rt; refusal, Some(CoreFault::NoteState(0, NoteRule::Late)));
+    add_processor(&mut notes, 5, 0)?;
+    let file = file_of_notes(rt.alloc(), &notes)?;
+    let refusal = parse(rt.alloc(), &file).err();
+    assert_eq!(rt; refusal, Some(CoreFault::NoteState(0, NoteRule::Twice)));
+    Ok(())
+}
+
+#[test]
+fn takes_64_processors(rt: HostRuntime) -> Result<(), Fail> {
+    let mut notes = Vec::new(rt.alloc());
+    for number in 0..64 {
+        add_processor(&mut notes, 1000 - number, 0x1000)?;
+    }
+    let file = file_of_notes(rt.alloc(), &notes)?;
+    let core = parse(rt.alloc(), &file)?;
+    assert_eq!(rt; core.processors.as_slice().len(), 64);
+    // The 65th is refused after its number is looked at, and before its registers.
+    let mut one_more = notes.clone()?;
+    add_processor(&mut one_more, 0, 1 << 60)?;
+    let file = file_of_notes(rt.alloc(), &one_more)?;
+    let refusal = parse(rt.alloc(), &file).err();
+    assert_eq!(rt; refusal, Some(CoreFault::NoteState(0, NoteRule::TooMany)));
+    add_processor(&mut notes, 1000, 0x1000)?;
+    let file = file_of_notes(rt.alloc(), &notes)?;
+    let refusal = parse(rt.alloc(), &file).err();
+    assert_eq!(rt; refusal, Some(CoreFault::NoteState(0, NoteRule::Twice)));
+    Ok(())
+}
+
+#[test]
+fn reads_as_many_headers_as_there_may_be(rt: HostRuntime) -> Result<(), Fail> {
+    let header = ProgramHeader {
+        kind: 1,
+        offset: 0,
+        physical: 0x1000,
+        file_size: 64,
+    };
+    let mut headers = vec![in rt.alloc(); header; 65_534]?;
+    let file = file_of(rt.alloc(), &headers, &[])?;
+    let core = parse(rt.alloc(), &file)?;
+    assert_eq!(rt; core.segments.as_slice().len(), 65_534);
+    headers.pop();
+    headers.push(ProgramHeader {
+        offset: u64::MAX,
+        ..header
+    })?;
+    let file = file_of(rt.alloc(), &headers, &[])?;
+    let refusal = parse(rt.alloc(), &file).err();
+    assert_eq!(rt; refusal, Some(CoreFault::SegmentRange(65_533)));
     Ok(())
 }
 
 #[test]
 fn says_why(rt: HostRuntime) -> Result<(), Fail> {
-    assert_eq!(rt;
-        CoreFault::NotBuilt.to_string(rt.alloc())?.as_str(),
-        "the file isn't a core of the one form that is read so far"
-    );
-    assert_eq!(rt;
-        CoreFault::Memory.to_string(rt.alloc())?.as_str(),
-        "out of memory"
-    );
+    for (fault, sentence) in [
+        (CoreFault::Short, "the file has fewer than 64 bytes"),
+        (
+            CoreFault::SegmentRange(7),
+            "the segment of program header 7 passes the end of the file",
+        ),
+        (
+            CoreFault::NoteState(2, NoteRule::Zero),
+            "a state note of program header 2 is refused: a field that has to be 0 isn't 0",
+        ),
+        (
+            CoreFault::NoteState(0, NoteRule::Regs(RegRule::NoPae)),
+            "a state note of program header 0 is refused: its registers are refused: NoPae",
+        ),
+        (CoreFault::Memory, "out of memory"),
+    ] {
+        assert_eq!(rt; fault.to_string(rt.alloc())?.as_str(), sentence);
+    }
     Ok(())
 }

@@ -1,5 +1,5 @@
 -- The event that a line spells. An empty line and a comment spell none.
-use Rattle.std.specs.Prelude.{ℕ, List, [], ◌∷◌, length, ◌&&◌, Option, Some, None, Result, Ok, Err, Bool, true, nat_lt, codes, ◌==◌, if◌then◌else◌}
+use Rattle.std.specs.Prelude.{ℕ, List, [], ◌∷◌, length, ◌^◌, ◌&&◌, Option, Some, None, option_and_then, Result, Ok, Err, Bool, true, nat_lt, codes, ◌==◌, if◌then◌else◌}
 use Rattle.std.specs.Str.{bytes_eq}
 use Rattle.paging_model.specs.declared.access.Access.TheVariants as access
 use Rattle.history_model.specs.declared.events.Event.{Event}
@@ -18,15 +18,18 @@ abbrev pub is_skipped : List ℕ → Bool
 is_skipped [] = true
 is_skipped (b ∷ rest) = b == 35
 
-abbrev pub ask_of : Option ℕ → Result (Option Event) Cause
-ask_of (Some pointer) = Ok (Some (Ask 0 access.Sr pointer))
-ask_of None = Err NotBuilt
+-- a processor's number, which has 32 bits
+abbrev pub cpu_of : List ℕ → Option ℕ
+cpu_of word = option_and_then (λ n. if nat_lt n (2 ^ 32) then Some n else None) (number_of word)
 
--- `ask 0 sr NUMBER`
+abbrev pub ask_of : Option ℕ → Option ℕ → Result (Option Event) Cause
+ask_of (Some cpu) (Some pointer) = Ok (Some (Ask cpu access.Sr pointer))
+ask_of _ _ = Err NotBuilt
+
+-- `ask P sr NUMBER`
 abbrev pub event_of_words : List (List ℕ) → Result (Option Event) Cause
 event_of_words (word ∷ cpu ∷ kind ∷ pointer ∷ []) =
-    if bytes_eq word (codes "ask") && bytes_eq cpu (codes "0") && bytes_eq kind (codes "sr")
-    then ask_of (number_of pointer) else Err NotBuilt
+    if bytes_eq word (codes "ask") && bytes_eq kind (codes "sr") then ask_of (cpu_of cpu) (number_of pointer) else Err NotBuilt
 event_of_words _ = Err NotBuilt
 
 unfoldable pub event_of : List ℕ → Result (Option Event) Cause

@@ -1,6 +1,8 @@
 -- The lines that are written, each with its LF.
 use Rattle.std.specs.Prelude.{ℕ, List, [], ◌∷◌, ◌++◌, Result, Ok, Err, codes, false}
 use Rattle.std.specs.Fmt.{digits, decimal}
+use Rattle.paging_model.specs.declared.registers.RegRule.{RegRule}
+use Rattle.paging_model.specs.declared.registers.RegRule.TheVariants.{PagingOff, NotLong, NoPae, La57Changed, PcidNotZero, KeepBitWithoutPcid, Cr3Reserved}
 use Rattle.history_model.specs.declared.events.Cause.{Cause}
 use Rattle.history_model.specs.declared.events.Cause.TheVariants.{NotBuilt}
 use Rattle.history_model.specs.declared.answers.Answer.{Answer}
@@ -29,6 +31,16 @@ asked_line (Err why) = codes "denied " ++ (why_text why ++ line_end)
 -- the lines of an answer
 abbrev pub answer_lines : Answer → List (List ℕ)
 answer_lines (Asked asked) = asked_line asked ∷ []
+
+-- the rule that a register state or a change breaks
+abbrev pub register_rule_text : RegRule → List ℕ
+register_rule_text PagingOff = codes "paging-off"
+register_rule_text NotLong = codes "not-long"
+register_rule_text NoPae = codes "no-pae"
+register_rule_text La57Changed = codes "la57-changed"
+register_rule_text PcidNotZero = codes "pcid-not-zero"
+register_rule_text KeepBitWithoutPcid = codes "keep-bit-without-pcid"
+register_rule_text Cr3Reserved = codes "cr3-reserved"
 
 abbrev pub cause_text : Cause → List ℕ
 cause_text NotBuilt = codes "not built"

@@ -31,7 +31,9 @@ pub record OfEvents : Type 0 where
   pub other_form : event_of (codes "list 0") ≡ Err NotBuilt
   pub two_spaces : event_of (codes "ask 0  sr 0x0") ≡ Err NotBuilt
   pub space_at_end : event_of (codes "ask 0 sr 0x0 ") ≡ Err NotBuilt
-  pub zero_spelled_otherwise : event_of (codes "ask 0x0 sr 0x0") ≡ Err NotBuilt
+  pub zero_spelled_otherwise : event_of (codes "ask 0x0 sr 0x0") ≡ Ok (Some (Ask 0 access.Sr 0))
+  pub greatest_processor : event_of (codes "ask 4294967295 sr 0") ≡ Ok (Some (Ask 4294967295 access.Sr 0))
+  pub processor_too_great : event_of (codes "ask 4294967296 sr 0") ≡ Err NotBuilt
 
 pub record OfTexts : Type 0 where
   pub granted : asked_line (Ok 0x6234) ≡ codes "granted 0x6234" ++ 10 ∷ []

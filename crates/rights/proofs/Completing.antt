@@ -4,13 +4,14 @@ use Rattle.std.specs.Prelude.{Bool, true, false, nat_lt, MatchBool, Option, Resu
 use Rattle.outside.specs.Shelf.{Told, holds}
 use Rattle.elf_core.specs.Cores.{core_of}
 use Rattle.elf_core.specs.declared.core_file.Core.{Core}
-use Rattle.elf_core.specs.declared.core_file.CoreFault.{CoreFault}
+use Rattle.elf_core.specs.declared.faults.CoreFault.{CoreFault}
 use Rattle.history_model.specs.History.{History, begun}
 use Rattle.history_model.specs.Log.{lines_of}
 use Rattle.history_model.specs.Outcome.{Outcome, Says}
 use Rattle.history_model.specs.Statuses.{code_of}
 use Rattle.history_model.specs.declared.statuses.Status.{Status}
 use Rattle.history_model.specs.declared.statuses.Status.TheVariants.{Answered, Usage, CoreRefused, LogRefused, ReadFailed, WriteFailed, OutOfMemory}
+use Rattle.rights.specs.CoreTexts.{core_refusal}
 use Rattle.rights.specs.FixedTexts.{core_too_long_line, log_refusal_line}
 use Rattle.rights.specs.Standing.{start_of}
 use Rattle.rights.specs.Ends.{Ends, Adds, one_line, after_put}

@@ -1,19 +1,20 @@
 -- What was read of a core and a log, and the outcome that it has.
-use Rattle.std.proofs.Common.{◌≡◌, ℕ, ◌≤◌, List, [], ◌∷◌, ◌++◌, refl, arith, sym, ◌∙◌, subst, length, take}
+use Rattle.std.proofs.Common.{◌≡◌, ℕ, ◌≤◌, List, [], ◌∷◌, ◌++◌, refl, arith, sym, ◌∙◌, subst, length, take, inl, inr}
 use Rattle.std.proofs.lemmas.Grind.{common_steps}
 use Rattle.std.proofs.lemmas.Bool.Decides.{nat_tests}
 use Rattle.std.specs.Prelude.{Bool, true, false, IsTrue, Option, nat_lt, MatchBool, Result, Ok, Err}
 use Rattle.outside.specs.Shelf.{Told, untold, missing, holds}
 use Rattle.outside.specs.Whole.{IsWhole}
-use Rattle.elf_core.specs.Cores.{core_of}
+use Rattle.elf_core.specs.Cores.{core_of, IsRefusalOf}
 use Rattle.elf_core.specs.declared.core_file.Core.{Core}
-use Rattle.elf_core.specs.declared.core_file.CoreFault.{CoreFault}
+use Rattle.elf_core.specs.declared.faults.CoreFault.{CoreFault}
 use Rattle.history_model.specs.History.{History, begun}
 use Rattle.history_model.specs.Log.{lines_of}
 use Rattle.history_model.specs.Outcome.{Says}
 use Rattle.history_model.specs.declared.statuses.Status.{Status}
 use Rattle.history_model.specs.declared.statuses.Status.TheVariants.{CoreRefused, LogRefused}
-use Rattle.rights.specs.FixedTexts.{core_too_long_line, core_refusal_line, log_refusal_line}
+use Rattle.rights.specs.CoreTexts.{core_refusal}
+use Rattle.rights.specs.FixedTexts.{core_too_long_line, log_refusal_line}
 use Rattle.rights.specs.Standing.{start_of}
 use Rattle.rights.specs.Ends.{Ends, one_line}
 use Rattle.rights.specs.Run.{core_limit, log_limit, IsLogOutcome, IsOutcomeBy, IsOutcome, IsAccepted, MayBe}
@@ -79,7 +80,7 @@ core_within core log before now status read within is ends =
 
 -- a core that is refused
 pub core_refused : (core log : List ℕ) (before now : Pieces) (status : Status) (fault : CoreFault) → nat_lt core_limit (length core) ≡ false → core_of core ≡ Err fault
-    → Ends (λ outcome. outcome ≡ one_line core_refusal_line CoreRefused) before now status → Ends (IsOutcome core log) before now status
+    → Ends (λ outcome. outcome ≡ one_line (core_refusal fault) CoreRefused) before now status → Ends (IsOutcome core log) before now status
 core_refused core log before now status fault within is ends = core_within core log before now status (Err fault) within is ends
 
 -- a core that is read
@@ -96,3 +97,7 @@ refused_accepted core fault is accepted = let never : false ≡ true = rw is at 
 
 pub accepted : (core : List ℕ) (read : Core) → nat_lt core_limit (length core) ≡ false → core_of core ≡ Ok read → IsAccepted core
 accepted core read within is = record { within = within; read = rw is refl }
+
+-- a fault that isn't want of memory is the defined refusal
+pub refused_as : (defined : Result Core CoreFault) (fault : CoreFault) → (fault ≡ CoreFault.Memory → ⊥) → IsRefusalOf defined fault → defined ≡ Err fault
+refused_as defined fault known is = elim is [ inl memory ↦ absurd (known memory) | inr refusal ↦ refusal ]

@@ -8,8 +8,5 @@ usage_line = codes "usage: run CORE LOG | check CORE | gen SEED COUNT" ++ line_e
 abbrev pub core_too_long_line : List ℕ
 core_too_long_line = codes "core refused: too long" ++ line_end
 
-abbrev pub core_refusal_line : List ℕ
-core_refusal_line = codes "core refused: not built" ++ line_end
-
 abbrev pub log_refusal_line : List ℕ
 log_refusal_line = codes "log refused: not built" ++ line_end

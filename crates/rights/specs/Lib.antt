@@ -1,4 +1,4 @@
-pub mod BuiltWalks
+pub mod CoreTexts
 pub mod Ends
 pub mod FixedTexts
 pub mod Forms

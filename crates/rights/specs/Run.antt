@@ -5,14 +5,15 @@ use denote.Ref.{Bor}
 use Rattle.outside.specs.Shelf.{Told, untold, missing, holds}
 use Rattle.elf_core.specs.Cores.{core_of}
 use Rattle.elf_core.specs.declared.core_file.Core.{Core}
-use Rattle.elf_core.specs.declared.core_file.CoreFault.{CoreFault}
+use Rattle.elf_core.specs.declared.faults.CoreFault.{CoreFault}
 use Rattle.history_model.specs.History.{History, begun}
 use Rattle.history_model.specs.Log.{lines_of}
 use Rattle.history_model.specs.Outcome.{Outcome, Says}
 use Rattle.history_model.specs.Statuses.{code_of}
 use Rattle.history_model.specs.declared.statuses.Status.{Status}
 use Rattle.history_model.specs.declared.statuses.Status.TheVariants.{CoreRefused, LogRefused, ReadFailed, OutOfMemory}
-use Rattle.rights.specs.FixedTexts.{core_too_long_line, core_refusal_line, log_refusal_line}
+use Rattle.rights.specs.CoreTexts.{core_refusal}
+use Rattle.rights.specs.FixedTexts.{core_too_long_line, log_refusal_line}
 use Rattle.rights.specs.Standing.{start_of}
 use Rattle.rights.specs.Ends.{Ends, one_line}
 
@@ -41,7 +42,7 @@ IsLogOutcome start log outcome =
 
 abbrev pub IsOutcomeBy : Result Core CoreFault → List ℕ → Outcome → Type 0
 IsOutcomeBy (Ok core) log outcome = IsLogOutcome (begun (start_of core)) log outcome
-IsOutcomeBy (Err fault) log outcome = outcome ≡ one_line core_refusal_line CoreRefused
+IsOutcomeBy (Err fault) log outcome = outcome ≡ one_line (core_refusal fault) CoreRefused
 
 -- what is written for a core and a log, and how the run ends
 abbrev pub IsOutcome : List ℕ → List ℕ → Outcome → Type 0

@@ -38,7 +38,7 @@ pub fn event_of(line: &[u8]) -> Result<Option<Event>, Cause>
     }
 }
 
-// The event of `ask 0 sr NUMBER`, the one form of a line that isn't skipped.
+// The event of `ask P sr NUMBER`, the one form of a line that isn't skipped.
 fn ask_of(line: &[u8]) -> Result<Option<Event>, Cause>
     ensures { result ≡ event_of_words (words_of line.now) }
 {
@@ -54,16 +54,26 @@ fn ask_of(line: &[u8]) -> Result<Option<Event>, Cause>
     let Some(pointer) = only_word(rest) else {
         return Err(Cause::NotBuilt);
     };
-    if word != b"ask".as_slice() || cpu != b"0".as_slice() || kind != b"sr".as_slice() {
+    if word != b"ask".as_slice() || kind != b"sr".as_slice() {
         return Err(Cause::NotBuilt);
     }
-    match number(pointer) {
-        Some(pointer) => Ok(Some(Event::Ask {
-            cpu: 0,
+    match (cpu_of(cpu), number(pointer)) {
+        (Some(cpu), Some(pointer)) => Ok(Some(Event::Ask {
+            cpu,
             access: Access::Sr,
             pointer,
         })),
-        None => Err(Cause::NotBuilt),
+        _ => Err(Cause::NotBuilt),
+    }
+}
+
+// The number of a processor that a word spells, which has 32 bits.
+fn cpu_of(word: &[u8]) -> Option<u32>
+    ensures { result ≡ cpu_of_word word.now }
+{
+    match number(word) {
+        Some(cpu) if cpu < 1 << 32 => Some(cpu as u32),
+        _ => None,
     }
 }
 
@@ -99,5 +109,5 @@ fn place_of(bytes: &[u8], byte: u8) -> Option<usize>
 }
 
 ghost use Rattle.std.specs.Prelude.{◌≢◌, All, take, slice_index, option_copied};
-ghost use Rattle.history_model.specs.LogLine.{event_of_words};
+ghost use Rattle.history_model.specs.LogLine.{cpu_of as cpu_of_word, event_of_words};
 ghost use Rattle.rights.specs.Words.{words_behind, HasMoreWords};

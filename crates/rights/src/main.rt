@@ -6,7 +6,6 @@
 
 ghost use Rattle.std.specs.Prelude.{◌≡◌, ◌<◌};
 
-pub mod entries;
 pub mod lines;
 pub mod logs;
 pub mod numbers;
@@ -14,7 +13,6 @@ pub mod replies;
 pub mod runs;
 pub mod session;
 pub mod texts;
-pub mod walks;
 pub mod words;
 
 use outside::{FileShelf, Shelf, Sink, StreamSink};

@@ -6,6 +6,7 @@ ghost use Rattle.outside.specs.Shelf.{Told, holds};
 ghost use Rattle.history_model.specs.History.{History};
 ghost use Rattle.history_model.specs.Outcome.{Outcome};
 ghost use Rattle.history_model.specs.Statuses.{code_of};
+ghost use Rattle.rights.specs.CoreTexts.{core_refusal};
 ghost use Rattle.rights.specs.FixedTexts.{usage_line};
 ghost use Rattle.rights.specs.Standing.{StandsFor};
 ghost use Rattle.rights.specs.Ends.{Adds, Ends, one_line};
@@ -13,13 +14,13 @@ ghost use Rattle.rights.specs.Run.{form_of as form_of_words, run as run_form, te
 
 use crate::logs::{after_put, answer_lines};
 use crate::session::Session;
-use crate::texts::{core_not_built, core_too_long, log_not_built, usage};
+use crate::texts::{core_refusal_text, core_too_long, log_not_built, usage};
 use crate::words::{Form, form_of};
 use elf_core::{CoreFault, parse};
 use history_model::statuses::Status;
 use outside::{ReadFault, Shelf, Sink, read_all};
 use phys_view::{Ledger, Steps};
-use std::alloc::Global;
+use std::alloc::{AllocError, Global};
 
 /// The greatest length of a core in bytes.
 pub const CORE_LIMIT: u64 = 2_147_483_648;
@@ -124,8 +125,7 @@ fn answer_files<S: Shelf, K: Sink, L: Ledger>(
             let session: Session<'_, L> = Session::new(core);
             answer_log(alloc, &session, log, shelf, out, steps)
         }
-        Err(CoreFault::NotBuilt) => after_put(out.put(core_not_built()), Status::CoreRefused),
-        Err(CoreFault::Memory) => Status::OutOfMemory,
+        Err(fault) => refuse_core(alloc, fault, out),
     }
 }
 
@@ -188,6 +188,20 @@ fn answer_log<S: Shelf, K: Sink, L: Ledger>(
         return after_put(out.put(log_not_built()), Status::LogRefused);
     }
     answer_lines(alloc, session, &file.bytes, out, steps)
+}
+
+// Writes why a core is refused.
+fn refuse_core<K: Sink>(alloc: Global, fault: CoreFault, out: &mut K) -> Status
+    ensures ends { IsUnread (K.pieces out.old) (K.pieces out.new) result
+        ⊎ ((fault ≢ CoreFault.Memory) × Ends (λ outcome. outcome ≡ one_line (core_refusal fault) Status.CoreRefused) (K.pieces out.old) (K.pieces out.new) result) }
+    ensures among { (result ≡ Status.CoreRefused) ⊎ (result ≡ Status.WriteFailed) ⊎ (result ≡ Status.OutOfMemory) }
+    ensures write_failed { result ≡ Status.WriteFailed → Rose (K.faults out.old) (K.faults out.new) }
+    ensures write_count { K.faults out.old ≤ K.faults out.new }
+{
+    match core_refusal_text(alloc, fault) {
+        Ok(text) => after_put(out.put(text.as_slice()), Status::CoreRefused),
+        Err(AllocError) => Status::OutOfMemory,
+    }
 }
 
 // How a run ends where a file wasn't read.

@@ -2,18 +2,21 @@
 
 ghost use Rattle.std.specs.Prelude.{◌≡◌, ℕ, ◌≤◌, ◌+◌, option_copied, map, None, Some, IfOk, IfErr, OnOk, OnErr, true, false};
 ghost use Rattle.history_model.specs.History.{History, begun, next, stated};
-ghost use Rattle.history_model.specs.Asking.{Answers, refusal, asked, meets_unbuilt};
+ghost use Rattle.history_model.specs.Asking.{Answers, refusal, asked, needs_more as needs_more_than_a_walk};
 ghost use Rattle.phys_view.specs.Seen.{memory_of};
 ghost use Rattle.rights.specs.Standing.{StandsFor, numbered, start_of};
 
-use crate::walks::walk;
 use elf_core::{Core, Processor, Processors};
 use history_model::answers::{Answer, Why};
 use history_model::events::{Cause, Event};
-use paging_model::walks::Walk;
 use phys_view::{Ledger, Steps, View};
+use proc_regs::bit_ranges::bit;
+use proc_regs::register_bits::{
+    CR3_LAM_U48, CR3_LAM_U57, CR4_LAM_SUP, CR4_LASS, CR4_PKE, CR4_PKS, CR4_SMAP,
+};
 use proc_regs::{Access, Machine, Regs, canonical, root, settings};
 use std::marker::Model;
+use walk_levels::{Walk, walk};
 
 /// Memory, the machine and its processors at one moment of a log.
 #[derive(Drop)]
@@ -48,8 +51,8 @@ impl<'a, L: Ledger> Session<'a, L> {
     ///
     /// # Errors
     ///
-    /// The event is refused: its processor isn't known, or the walk that it asks for meets a present entry of a form
-    /// that this version doesn't handle.
+    /// The event is refused: its processor isn't known, or has registers under which the access depends on more than
+    /// the walk.
     pub fn step(&self, event: &Event, steps: &mut Steps<L>) -> Result<Answer, Cause>
         ensures answered { (moment : History) → StandsFor self.now moment → IfOk result (Answers moment event.now) }
         ensures accepted { (moment : History) → StandsFor self.now moment → OnOk result (refusal moment event.now ≡ None) }
@@ -82,10 +85,10 @@ impl<'a, L: Ledger> Session<'a, L> {
         let Some(regs) = self.regs(cpu) else {
             return Err(Cause::NotBuilt);
         };
-        match self.ask(regs, access, pointer, steps) {
-            Ok(asked) => Ok(Answer::Asked(asked)),
-            Err(cause) => Err(cause),
+        if needs_more(regs) {
+            return Err(Cause::NotBuilt);
         }
+        Ok(Answer::Asked(self.ask(regs, access, pointer, steps)))
     }
 
     // The registers of a processor, by its number.
@@ -95,33 +98,42 @@ impl<'a, L: Ledger> Session<'a, L> {
         regs_of(self.processors.as_slice(), cpu)
     }
 
-    // Whether a processor is granted an access, and at which physical address.
+    // Whether an access is granted under these registers, and at which physical address.
     fn ask(
         &self,
         regs: &Regs,
         access: Access,
         pointer: u64,
         steps: &mut Steps<L>,
-    ) -> Result<Result<u64, Why>, Cause>
-        ensures value { IfOk result (λ found. found ≡ asked (memory_of self.now.seen) self.now.machine regs.now access pointer) }
-        ensures built { OnOk result (meets_unbuilt (memory_of self.now.seen) self.now.machine regs.now pointer ≡ false) }
-        ensures unbuilt { OnErr result (meets_unbuilt (memory_of self.now.seen) self.now.machine regs.now pointer ≡ true) }
-        ensures cause { IfErr result (λ cause. cause ≡ Cause.NotBuilt) }
+    ) -> Result<u64, Why>
+        ensures value { result ≡ asked (memory_of self.now.seen) self.now.machine regs.now access pointer }
         ensures cost { steps.new ≤ steps.old + 5 }
     {
         let settings = settings(regs, &self.machine);
         if !canonical(settings.la57, pointer) {
-            return Ok(Err(Why::NotCanonical));
+            return Err(Why::NotCanonical);
         }
         let root = root(regs, &self.machine);
         match walk(&self.view, &settings, root, pointer, steps) {
-            Ok(Walk::Mapped(page)) => Ok(Ok(page.frame + pointer % 4096)),
-            Ok(Walk::Absent(level)) => Ok(Err(Why::Absent(level))),
-            Ok(Walk::Reserved(level)) => Ok(Err(Why::Reserved(level))),
-            Ok(Walk::Unknown(level)) => Ok(Err(Why::Unknown(level))),
-            Err(cause) => Err(cause),
+            Walk::Mapped(page) => Ok(page.frame + pointer % 4096),
+            Walk::Absent(level) => Err(Why::Absent(level)),
+            Walk::Reserved(level) => Err(Why::Reserved(level)),
+            Walk::Unknown(level) => Err(Why::Unknown(level)),
         }
     }
+}
+
+// Whether an access depends on more than the walk: on SMAP, protection keys, LASS or linear-address masking.
+fn needs_more(regs: &Regs) -> bool
+    ensures { result ≡ needs_more_than_a_walk regs.now }
+{
+    bit(regs.cr4, CR4_SMAP)
+        || bit(regs.cr4, CR4_PKE)
+        || bit(regs.cr4, CR4_PKS)
+        || bit(regs.cr4, CR4_LASS)
+        || bit(regs.cr4, CR4_LAM_SUP)
+        || bit(regs.cr3, CR3_LAM_U57)
+        || bit(regs.cr3, CR3_LAM_U48)
 }
 
 // The registers of the first processor of a number.

@@ -1,12 +1,23 @@
-use Rattle.std.proofs.Common.{◌≡◌, Ok, rules}
-use Rattle.std.specs.Prelude.{IfOk}
-use Rattle.std.proofs.lemmas.Result.{IfOk-weaker}
-use Rattle.elf_core.specs.Cores.{core_of}
-use Rattle.elf_core.proofs.PlainCores.{one_processor}
+use Rattle.std.proofs.Common.{◌≡◌, Ok, refl, sym, ap, subst, ◌∙◌, arith}
+use Rattle.std.proofs.lemmas.Result.{err_from_is_err_and}
+use Rattle.elf_core.specs.Cores.{after_headers, blank_core, numbers_from, core_of, IsRefusalOf}
+use Rattle.elf_core.specs.FileHeader.{e_phnum}
+use Rattle.elf_core.proofs.Refusals.{headers_end, headers_go_on, headers_refused, headers_of_core}
+use Rattle.elf_core.proofs.Consistency.{core_is_consistent}
 use Rattle.elf_core.proofs.core_file.parse.Goals as goal
 
-pub returns-clause-one_processor : goal.returns-clause-one_processor
-unfolding core_of
-returns-clause-one_processor c =
-    let stated : IfOk c.map_err.result (λ core. core_of c.args.bytes.now ≡ Ok core) = search rules in
-    IfOk-weaker _ _ _ (one_processor c.args.bytes.now) stated
+pub returns-in_err-add_header-clause-refused : goal.returns-in_err-add_header-clause-refused
+returns-in_err-add_header-clause-refused c =
+    let returned = err_from_is_err_and c.from_residual-in_err-add_header.result c.from_residual-in_err-add_header.ensures.1 in
+    let fault = c.in_err-add_header.field-0.0 in
+    let refused = headers_refused c.args.bytes.now c.headers.number (e_phnum c.args.bytes.now) c.headers.core fault (omega arith) c.in_err-add_header.ensures.refused in
+    rw (returned.1, returned.2) (subst (λ read. IsRefusalOf read fault) (c.headers.invariant ∙ sym (headers_of_core c.args.bytes.now (sym c.in_ok-check_file_header.ensures.value))) refused)
+
+pub headers-preserved : goal.headers-preserved
+headers-preserved c = sym (headers_go_on c.args.bytes.now c.headers.number (e_phnum c.args.bytes.now) c.headers.core c.add_header.new.self (omega arith) c.in_ok-add_header.ensures.ok) ∙ c.headers.invariant
+
+pub returns-clause-ok : goal.returns-clause-ok
+returns-clause-ok c = headers_of_core c.args.bytes.now (sym c.in_ok-check_file_header.ensures.value) ∙ sym c.headers.invariant ∙ headers_end c.args.bytes.now c.headers.number (e_phnum c.args.bytes.now) c.headers.core (omega arith)
+
+pub returns-clause-consistent : goal.returns-clause-consistent
+returns-clause-consistent c = core_is_consistent c.args.bytes.now c.headers.core (returns-clause-ok c)

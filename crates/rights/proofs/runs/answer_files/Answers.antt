@@ -2,14 +2,14 @@ use Rattle.std.proofs.Common.{◌≡◌, inl, inr, refl, []}
 use Rattle.outside.proofs.Counts.{Rose-earlier}
 use Rattle.std.specs.Prelude.{Ok, Err}
 use Rattle.elf_core.specs.Cores.{core_of}
-use Rattle.elf_core.specs.declared.core_file.CoreFault.{CoreFault}
+use Rattle.elf_core.specs.declared.faults.CoreFault.{CoreFault}
 use Rattle.history_model.specs.History.{begun}
 use Rattle.history_model.specs.declared.statuses.Status.TheVariants.{CoreRefused}
-use Rattle.rights.specs.FixedTexts.{core_too_long_line, core_refusal_line}
+use Rattle.rights.specs.FixedTexts.{core_too_long_line}
 use Rattle.rights.specs.Standing.{start_of}
 use Rattle.rights.specs.Run.{core_limit}
 use Rattle.rights.proofs.Endings.{one_line-ends}
-use Rattle.rights.proofs.Reading.{read_past, read_within, core_past, core_refused, core_read, past_accepted, refused_accepted, accepted}
+use Rattle.rights.proofs.Reading.{read_past, read_within, core_past, core_refused, core_read, past_accepted, refused_accepted, refused_as, accepted}
 use Rattle.rights.proofs.runs.answer_files.Goals as goal
 
 pub returns-then-file-clause-ends : goal.returns-then-file-clause-ends
@@ -25,20 +25,21 @@ returns-then-file-clause-ends g c =
           (rw c.after_put.ensures (one_line-ends _ _ core_too_long_line CoreRefused c.put.result (inr (inl refl)) (rw c.core_too_long.ensures at c.put.ensures.pieces)));
     })
 
-pub returns-in-Err-NotBuilt-clause-ends : goal.returns-in-Err-NotBuilt-clause-ends
-returns-in-Err-NotBuilt-clause-ends g c =
+pub returns-clause-ends : goal.returns-clause-ends
+returns-clause-ends g c =
     let read = read_within (g.S.Shelf.told c.args.shelf.now c.args.core.now) core_limit _ c.in-Ok.file.bytes.items c.in-Ok.file.cut c.in-Ok.file.bytes.ok.0
-    c.in-Ok.ensures.whole c.in-Ok.ensures.missing c.in-Ok.ensures.bound c.if-file.false in
-    let is : core_of c.in-Ok.file.bytes.items ≡ Err CoreFault.NotBuilt =
-    rw c.deref.ensures.value at (rw c.in-Err-NotBuilt.field-0-is at c.in-Err-NotBuilt.ensures.refused) in
-    inr (record {
-      core = c.in-Ok.file.bytes.items;
-      log = [];
-      core_is = read.may_be;
-      log_is = λ taken. absurd (refused_accepted c.in-Ok.file.bytes.items CoreFault.NotBuilt is taken);
-      ends = core_refused c.in-Ok.file.bytes.items [] _ _ _ CoreFault.NotBuilt read.within is
-          (rw c.after_put-in-Err-NotBuilt.ensures (one_line-ends _ _ core_refusal_line CoreRefused c.put-in-Err-NotBuilt.result (inr (inl refl)) (rw c.core_not_built.ensures at c.put-in-Err-NotBuilt.ensures.pieces)));
-    })
+        c.in-Ok.ensures.whole c.in-Ok.ensures.missing c.in-Ok.ensures.bound c.if-file.false in
+    elim c.refuse_core.ensures.ends
+        [ inl unread ↦ inl unread
+        | inr refused ↦
+            let is = refused_as (core_of c.in-Ok.file.bytes.items) c.in-Err-parse.fault refused.0 (rw c.deref.ensures.value at c.in-Err-parse.ensures.refused) in
+            inr (record {
+              core = c.in-Ok.file.bytes.items;
+              log = [];
+              core_is = read.may_be;
+              log_is = λ taken. absurd (refused_accepted c.in-Ok.file.bytes.items c.in-Err-parse.fault is taken);
+              ends = core_refused c.in-Ok.file.bytes.items [] _ _ _ c.in-Err-parse.fault read.within is refused.1
+            }) ]
 
 pub returns-in-Ok-parse-clause-ends : goal.returns-in-Ok-parse-clause-ends
 returns-in-Ok-parse-clause-ends g c =
