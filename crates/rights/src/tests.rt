@@ -9,7 +9,11 @@ const CORE_LEN: usize = 65_832;
 /// Where the core's segment begins, which is memory from 0 on.
 const MEMORY: usize = 296;
 
+const LARGEST_PAGES: usize = 204;
+
 const CR3: usize = 248;
+
+const CR4: usize = 256;
 
 fn put(bytes: &mut [u8], place: usize, number: &[u8]) {
     if let Some(behind) = bytes.get_mut(place..)
@@ -110,7 +114,7 @@ fn lines_are_answered_or_refused(rt: HostRuntime) -> Result<(), Fail> {
         ),
         (b"", b"", 0),
         (b"# note\n\nask 0 sr 0xfff", b"granted 0x5fff\n", 0),
-        (b"ask 0 sr 4660\n", b"granted 0x6234\n", 0),
+        (b"ask 0x0 sr 4660\n", b"granted 0x6234\n", 0),
         (
             b"ask 0 sr 0x0\nlist 0\nask 0 sr 0x0\n",
             b"granted 0x5000\nline 2 refused: not built\n",
@@ -149,33 +153,40 @@ fn a_line_of_more_than_8300_bytes_is_refused(rt: HostRuntime) -> Result<(), Fail
     Ok(())
 }
 
+/// A number that stands at a place of the example core.
+type Change = (usize, u64);
+
 #[test]
 fn the_walk_reads_the_tables_of_the_core(rt: HostRuntime) -> Result<(), Fail> {
-    // The root, an address in memory and its entry, and what is written.
-    let cases: [(u64, usize, u64, &[u8], u8); 5] = [
-        (0x10000, 0, 0, b"denied unknown 4\n", 0),
+    let ask = b"ask 0 sr 0x1234\n".as_slice();
+    let cases: [(&[Change], &[u8], &[u8], u8); 10] = [
+        (&[(CR3, 0x10000)], ask, b"denied unknown 4\n", 0),
+        (&[(MEMORY + 0x3000, 0x0040_20e7)], ask, b"denied reserved 2\n", 0),
+        (&[(MEMORY + 0x3000, 0x0040_20e6)], ask, b"denied absent 2\n", 0),
+        (&[(MEMORY + 0x3000, 0x0040_10e7)], ask, b"granted 0x401234\n", 0),
+        (&[(MEMORY + 0x3000, 0x0040_00e7)], b"ask 0 sr 0x0\n", b"granted 0x400000\n", 0),
+        (&[(MEMORY + 0x2000, 0x4000_00e7)], ask, b"granted 0x40001234\n", 0),
         (
-            0x1000,
-            0x3000,
-            0x0040_00e7,
-            b"line 1 refused: not built\n",
-            4,
+            &[(MEMORY + 0x2000, 0x4000_00e7), (LARGEST_PAGES, 0x0000_000a_0000_0000)],
+            ask,
+            b"denied reserved 3\n",
+            0,
         ),
-        (0x1000, 0x3000, 0x0040_00e6, b"denied absent 2\n", 0),
         (
-            0x1000,
-            0x4000,
-            0x0100_0000_5007,
-            b"line 1 refused: not built\n",
-            4,
+            &[(CR3, 0x7000), (CR4, 0x1020), (MEMORY + 0x7000, 0x1007)],
+            b"ask 0 sr 0x800000000000\nask 0 sr 0x1234\n",
+            b"denied absent 4\ngranted 0x6234\n",
+            0,
         ),
-        (0x1000, 0x4000, 0x7007, b"granted 0x7000\n", 0),
+        (&[(CR4, 0x0020_0020)], ask, b"line 1 refused: not built\n", 4),
+        (&[(CR3, 0x4000_0000_0000_1000)], ask, b"line 1 refused: not built\n", 4),
     ];
-    for (root, at, entry, text, status) in cases {
+    for (changes, log, text, status) in cases {
         let mut core = example_core(rt.alloc())?;
-        put(&mut core, CR3, &root.to_le_bytes());
-        put_entry(&mut core, at, entry);
-        let (written, code) = outcome(rt.alloc(), &core, b"ask 0 sr 0x0\n")?;
+        for (place, number) in changes {
+            put(&mut core, *place, &number.to_le_bytes());
+        }
+        let (written, code) = outcome(rt.alloc(), &core, log)?;
         assert_eq!(rt; written.as_slice(), text);
         assert_eq!(rt; code, status);
     }
@@ -183,17 +194,39 @@ fn the_walk_reads_the_tables_of_the_core(rt: HostRuntime) -> Result<(), Fail> {
 }
 
 #[test]
-fn another_core_is_refused(rt: HostRuntime) -> Result<(), Fail> {
+fn a_core_is_refused_at_its_first_fault(rt: HostRuntime) -> Result<(), Fail> {
     let core = example_core(rt.alloc())?;
-    let refused: ([u8; 24], u8) = (*b"core refused: not built\n", 3);
-    for len in [0, 63, 295, 65_831] {
+    let cases: [(usize, &[u8]); 4] = [
+        (0, b"core refused: short\n"),
+        (63, b"core refused: short\n"),
+        (100, b"core refused: header range\n"),
+        (65_831, b"core refused: segment range 1\n"),
+    ];
+    for (len, text) in cases {
         let (written, code) = outcome(rt.alloc(), core.get(..len).unwrap_or(&[]), b"list 0\n")?;
-        assert_eq!(rt; written.as_slice(), refused.0.as_slice());
-        assert_eq!(rt; code, refused.1);
+        assert_eq!(rt; written.as_slice(), text);
+        assert_eq!(rt; code, 3);
     }
-    let (written, code) = outcome(rt.alloc(), &foreign_core(rt.alloc())?, b"ask 0 sr 0x0\n")?;
-    assert_eq!(rt; written.as_slice(), refused.0.as_slice());
-    assert_eq!(rt; code, refused.1);
+    let mut core = core;
+    put(&mut core, CR3, &0x0100_0000_1000u64.to_le_bytes());
+    let (written, code) = outcome(rt.alloc(), &core, b"")?;
+    assert_eq!(rt; written.as_slice(), b"core refused: note state 0 cr3-reserved\n".as_slice());
+    assert_eq!(rt; code, 3);
+    Ok(())
+}
+
+#[test]
+fn a_core_without_state_notes_has_no_processor(rt: HostRuntime) -> Result<(), Fail> {
+    let core = foreign_core(rt.alloc())?;
+    let cases: [(&[u8], &[u8], u8); 2] = [
+        (b"", b"", 0),
+        (b"ask 0 sr 0x0\n", b"line 1 refused: not built\n", 4),
+    ];
+    for (log, text, status) in cases {
+        let (written, code) = outcome(rt.alloc(), &core, log)?;
+        assert_eq!(rt; written.as_slice(), text);
+        assert_eq!(rt; code, status);
+    }
     Ok(())
 }
 
