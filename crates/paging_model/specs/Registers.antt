@@ -86,6 +86,10 @@ machine_of m big = record {
 abbrev pub root_of : Regs → Machine → ℕ
 root_of regs machine = in_place regs.cr3 (machine.m - 1) 12
 
+-- the current PCID: CR3 bits 11:0 with PCIDs, else 0
+abbrev pub pcid_of : Regs → ℕ
+pcid_of regs = if pcide regs then field regs.cr3 11 0 else 0
+
 -- what the meaning of an entry and the length of a walk depend on
 abbrev pub settings_of : Regs → Machine → Settings
 settings_of regs machine = record {

@@ -3,7 +3,7 @@
 -- 0x5000 and the page 0x1000, without writes, to 0x6000; known up to 0x10000.
 use Rattle.std.specs.Prelude.{◌≡◌, ℕ, ◌+◌, ◌-◌, ◌*◌, ◌/◌, ◌%◌, ◌^◌, ◌==◌, ◌≤◌, ◌&&◌, Bool, true, false, Option, Some, None, Result, Ok, Err, List, [], ◌∷◌, nat_le, nat_lt, if◌then◌else◌}
 use Rattle.paging_model.specs.Memory.{Memory, Extent, byte_in, number_at}
-use Rattle.paging_model.specs.Registers.{root_of, settings_of}
+use Rattle.paging_model.specs.Registers.{pcid_of, root_of, settings_of}
 use Rattle.paging_model.specs.RegisterRules.{check_of}
 use Rattle.paging_model.specs.LinearAddress.{is_canonical, index}
 use Rattle.paging_model.specs.Entries.{entry_of, joined}
@@ -63,6 +63,8 @@ pub record OfRegisters (machine : Machine) : Type 0 where
   pub no_pae : check_of machine (record small_regs { cr4 = 0 }) ≡ Err rule.NoPae
   pub past_the_width : check_of machine (record small_regs { cr3 = 0x10000001000 }) ≡ Err rule.Cr3Reserved
   pub masking_bits : check_of machine (record small_regs { cr3 = 0x6000000000001000 }) ≡ Ok tt
+  pub pcid : pcid_of (record small_regs { cr3 = 0x1fff; cr4 = 0x20020 }) ≡ 0xfff
+  pub pcid_off : pcid_of (record small_regs { cr3 = 0x1fff }) ≡ 0
   pub root : root_of (record small_regs { cr3 = 0x6000000000001fff }) machine ≡ 0x1000
 
 -- of settings with a physical width of 40, 1-GByte pages, 4 levels and execute-disable

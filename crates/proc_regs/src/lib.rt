@@ -8,7 +8,7 @@ pub mod register_bits;
 pub mod rules;
 
 pub use byte_lists::{Payload, Text};
-pub use paging::{canonical, root, settings};
+pub use paging::{canonical, pcid, root, settings};
 pub use paging_model::access::Access;
 pub use paging_model::registers::{Machine, RegChange, RegRule, Regs, Settings};
 pub use rules::check;

@@ -1,11 +1,11 @@
 //! What the registers set: the root, the settings of a walk, and which addresses are canonical.
 
 ghost use Rattle.std.specs.Prelude.{◌≡◌, ◌%◌, ◌^◌, ◌<◌};
-ghost use Rattle.paging_model.specs.Registers.{root_of, settings_of};
+ghost use Rattle.paging_model.specs.Registers.{pcid_of, root_of, settings_of};
 ghost use Rattle.paging_model.specs.LinearAddress.{is_canonical};
 
 use crate::bit_ranges::{bit, field, in_place};
-use crate::register_bits::{CR4_LA57, EFER_NXE};
+use crate::register_bits::{CR4_LA57, CR4_PCIDE, EFER_NXE};
 use paging_model::registers::{Machine, Regs, Settings};
 
 /// The physical address of the top table.
@@ -15,6 +15,18 @@ pub fn root(regs: &Regs, machine: &Machine) -> u64
     ensures below { result < 2 ^ 52 }
 {
     in_place(regs.cr3, machine.m - 1, 12)
+}
+
+/// The current process-context identifier, 12 bits; 0 where CR4.PCIDE is 0.
+pub fn pcid(regs: &Regs) -> u16
+    ensures value { result ≡ pcid_of regs.now }
+    ensures below { result < 2 ^ 12 }
+{
+    if bit(regs.cr4, CR4_PCIDE) {
+        field(regs.cr3, 11, 0) as u16
+    } else {
+        0
+    }
 }
 
 /// What the meaning of an entry and the length of a walk depend on.

@@ -136,6 +136,20 @@ fn reads_what_the_registers_set(rt: HostRuntime) {
 }
 
 #[test]
+fn tells_the_current_pcid(rt: HostRuntime) {
+    let state = Regs {
+        cr3: 0x1fff,
+        ..STATE
+    };
+    assert_eq!(rt; pcid(&state), 0);
+    let state = Regs {
+        cr4: 0x2_0020,
+        ..state
+    };
+    assert_eq!(rt; pcid(&state), 0xfff);
+}
+
+#[test]
 fn tells_canonical_addresses(rt: HostRuntime) {
     assert!(rt; canonical(false, 0x7fff_ffff_ffff));
     assert!(rt; !canonical(false, 0x8000_0000_0000));
