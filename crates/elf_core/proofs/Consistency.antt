@@ -1,6 +1,6 @@
 -- A core that a file states has few processors, told apart by their numbers, each allowed by the machine.
-use Rattle.std.proofs.Common.{◌≡◌, ◌≢◌, ℕ, zero, suc, ◌+◌, ◌<◌, ◌≤◌, Bool, true, false, cond, List, [], ◌∷◌, ◌++◌, length, get_or, Option, Some, None, Result, Ok, Err, All, refl, sym, ap, subst, ◌∙◌, arith, inl, inr, length-append}
-use Rattle.std.specs.Prelude.{◌⊎◌, ◌==◌, ◌&&◌, not, nat_le, AllPairs}
+use Rattle.std.proofs.Common.{◌≡◌, ◌≢◌, ℕ, ◌<◌, Bool, true, false, cond, List, [], ◌∷◌, length, get_or, Option, Some, None, Result, Ok, Err, refl, subst, arith, inl, inr, length-append}
+use Rattle.std.specs.Prelude.{◌⊎◌, ◌==◌, not, nat_le}
 use Rattle.std.specs.List.{list_any}
 use Rattle.std.proofs.lemmas.Bool.{eqb-true, eq-eqb, leb-false, not-false}
 use Rattle.std.proofs.lemmas.List.Folds.{list_any_at}
@@ -8,7 +8,6 @@ use Rattle.std.proofs.lemmas.List.Quantifiers.{all_pairs_push}
 use Rattle.std.proofs.lemmas.List.Elements.{All-push}
 use Rattle.paging_model.specs.Memory.{Extent}
 use Rattle.paging_model.specs.RegisterRules.{check_of}
-use Rattle.paging_model.specs.Registers.{machine_of}
 use Rattle.paging_model.specs.declared.registers.Machine.{Machine}
 use Rattle.paging_model.specs.declared.registers.RegRule.{RegRule}
 use Rattle.elf_core.specs.Steps.{◌>>=◌, steps_over}
@@ -16,13 +15,12 @@ use Rattle.elf_core.specs.FileHeader.{file_header_check, e_phnum}
 use Rattle.elf_core.specs.ProgramHeaders.{program_header, is_load, is_note, segment_of, notes_of}
 use Rattle.elf_core.specs.Notes.{NoteParts, all_notes}
 use Rattle.elf_core.specs.ProcessorLists.{has_number}
-use Rattle.elf_core.specs.StateNotes.{is_state_note, is_machine, width_at, big_at, machine_stated, number_at, regs_at, has_zeros, allowed, processor_stated, of_machine, of_processor, statement_of}
+use Rattle.elf_core.specs.StateNotes.{is_state_note, is_machine, machine_stated, number_at, regs_at, has_zeros, allowed, processor_stated, of_machine, of_processor, statement_of}
 use Rattle.elf_core.specs.Cores.{blank_core, with_segment, with_statement, after_statement, after_note, after_notes, after_header, after_headers, numbers_from, core_of, IsConsistent}
 use Rattle.elf_core.specs.declared.core_file.Core.{Core}
 use Rattle.elf_core.specs.declared.processors.Processor.{Processor}
 use Rattle.elf_core.specs.declared.state_notes.Statement.{Statement}
 use Rattle.elf_core.specs.declared.state_notes.Statement.TheVariants as statement
-use Rattle.elf_core.specs.declared.faults.CoreFault.{CoreFault}
 use Rattle.elf_core.specs.declared.faults.NoteRule.{NoteRule}
 use Rattle.elf_core.specs.declared.faults.NoteRule.TheVariants as rule
 

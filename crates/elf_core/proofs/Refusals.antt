@@ -1,12 +1,12 @@
 -- Steps over a list, one at a time.
-use Rattle.std.proofs.Common.{◌≡◌, ℕ, suc, ◌+◌, ◌-◌, ◌<◌, ◌≤◌, List, [], ◌∷◌, length, Option, Some, None, Result, Ok, Err, refl, sym, ap, ◌∙◌, arith, inl, inr}
+use Rattle.std.proofs.Common.{◌≡◌, ℕ, suc, ◌+◌, ◌-◌, ◌<◌, ◌≤◌, List, [], ◌∷◌, length, Some, None, Result, Ok, Err, refl, ap, ◌∙◌, arith, inl, inr}
 use Rattle.elf_core.specs.Steps.{◌>>=◌, steps_over}
 use Rattle.elf_core.specs.Notes.{NoteParts, first_note, all_notes}
 use Rattle.elf_core.specs.Cores.{after_note, after_notes, after_header, after_headers, numbers_from, blank_core, core_of, IsRefusalOf}
 use Rattle.elf_core.specs.FileHeader.{file_header_check, e_phnum}
 use Rattle.elf_core.specs.declared.core_file.Core.{Core}
 use Rattle.elf_core.specs.declared.faults.CoreFault.{CoreFault}
-use Rattle.elf_core.specs.declared.faults.CoreFault.TheVariants.{NoteRange, Memory}
+use Rattle.elf_core.specs.declared.faults.CoreFault.TheVariants.{NoteRange}
 use Rattle.elf_core.proofs.NoteLists.{all_notes-short, all_notes-long}
 
 -- a refused step refuses the whole

@@ -1,5 +1,5 @@
 -- The core that a file states: known memory, the machine and its processors, or the first refusal.
-use Rattle.std.specs.Prelude.{◌≡◌, ◌≢◌, ◌⊎◌, ◌≤◌, ℕ, zero, suc, ◌+◌, ◌++◌, List, [], ◌∷◌, length, All, AllPairs, Bool, true, false, Option, Some, None, Result, Ok, Err, if◌then◌else◌}
+use Rattle.std.specs.Prelude.{◌≡◌, ◌≢◌, ◌⊎◌, ◌≤◌, ℕ, zero, suc, ◌+◌, ◌++◌, List, [], ◌∷◌, length, All, AllPairs, true, false, Option, Some, None, Result, Ok, Err, if◌then◌else◌}
 use Rattle.paging_model.specs.Memory.{Extent}
 use Rattle.paging_model.specs.Registers.{machine_of}
 use Rattle.paging_model.specs.RegisterRules.{check_of}
@@ -8,7 +8,6 @@ use Rattle.elf_core.specs.FileHeader.{file_header_check, e_phnum}
 use Rattle.elf_core.specs.ProgramHeaders.{program_header, is_load, is_note, segment_of, notes_of}
 use Rattle.elf_core.specs.Notes.{NoteParts, all_notes}
 use Rattle.elf_core.specs.StateNotes.{is_state_note, statement_of}
-use Rattle.elf_core.specs.declared.headers.ProgramHeader.{ProgramHeader}
 use Rattle.paging_model.specs.declared.registers.Machine.{Machine}
 use Rattle.elf_core.specs.declared.state_notes.Statement.{Statement}
 use Rattle.elf_core.specs.declared.state_notes.Statement.TheVariants as statement

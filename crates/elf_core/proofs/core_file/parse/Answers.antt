@@ -1,6 +1,6 @@
-use Rattle.std.proofs.Common.{◌≡◌, Ok, refl, sym, ap, subst, ◌∙◌, arith}
+use Rattle.std.proofs.Common.{sym, subst, ◌∙◌, arith}
 use Rattle.std.proofs.lemmas.Result.{err_from_is_err_and}
-use Rattle.elf_core.specs.Cores.{after_headers, blank_core, numbers_from, core_of, IsRefusalOf}
+use Rattle.elf_core.specs.Cores.{IsRefusalOf}
 use Rattle.elf_core.specs.FileHeader.{e_phnum}
 use Rattle.elf_core.proofs.Refusals.{headers_end, headers_go_on, headers_refused, headers_of_core}
 use Rattle.elf_core.proofs.Consistency.{core_is_consistent}
