@@ -11,7 +11,6 @@ use Rattle.history_model.specs.Outcome.{Outcome, Says}
 use Rattle.history_model.specs.Statuses.{code_of}
 use Rattle.history_model.specs.declared.statuses.Status.{Status}
 use Rattle.history_model.specs.declared.statuses.Status.TheVariants.{Answered, Usage, CoreRefused, LogRefused, ReadFailed, WriteFailed, OutOfMemory}
-use Rattle.rights.specs.CoreTexts.{core_refusal}
 use Rattle.rights.specs.FixedTexts.{core_too_long_line, log_refusal_line}
 use Rattle.rights.specs.Standing.{start_of}
 use Rattle.rights.specs.Ends.{Ends, Adds, one_line, after_put}

@@ -1,6 +1,6 @@
 -- Which `ask` is refused, in the moment that a session stands for.
 use Rattle.std.proofs.Common.{◌≡◌, ℕ, refl, ◌∙◌}
-use Rattle.std.specs.Prelude.{Bool, Option, Some, None, if◌then◌else◌}
+use Rattle.std.specs.Prelude.{Bool, Some, None, if◌then◌else◌}
 use Rattle.paging_model.specs.declared.access.Access.{Access}
 use Rattle.paging_model.specs.declared.registers.Regs.{Regs}
 use Rattle.history_model.specs.History.{History, regs, stated}

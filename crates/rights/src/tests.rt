@@ -161,13 +161,41 @@ fn the_walk_reads_the_tables_of_the_core(rt: HostRuntime) -> Result<(), Fail> {
     let ask = b"ask 0 sr 0x1234\n".as_slice();
     let cases: [(&[Change], &[u8], &[u8], u8); 10] = [
         (&[(CR3, 0x10000)], ask, b"denied unknown 4\n", 0),
-        (&[(MEMORY + 0x3000, 0x0040_20e7)], ask, b"denied reserved 2\n", 0),
-        (&[(MEMORY + 0x3000, 0x0040_20e6)], ask, b"denied absent 2\n", 0),
-        (&[(MEMORY + 0x3000, 0x0040_10e7)], ask, b"granted 0x401234\n", 0),
-        (&[(MEMORY + 0x3000, 0x0040_00e7)], b"ask 0 sr 0x0\n", b"granted 0x400000\n", 0),
-        (&[(MEMORY + 0x2000, 0x4000_00e7)], ask, b"granted 0x40001234\n", 0),
         (
-            &[(MEMORY + 0x2000, 0x4000_00e7), (LARGEST_PAGES, 0x0000_000a_0000_0000)],
+            &[(MEMORY + 0x3000, 0x0040_20e7)],
+            ask,
+            b"denied reserved 2\n",
+            0,
+        ),
+        (
+            &[(MEMORY + 0x3000, 0x0040_20e6)],
+            ask,
+            b"denied absent 2\n",
+            0,
+        ),
+        (
+            &[(MEMORY + 0x3000, 0x0040_10e7)],
+            ask,
+            b"granted 0x401234\n",
+            0,
+        ),
+        (
+            &[(MEMORY + 0x3000, 0x0040_00e7)],
+            b"ask 0 sr 0x0\n",
+            b"granted 0x400000\n",
+            0,
+        ),
+        (
+            &[(MEMORY + 0x2000, 0x4000_00e7)],
+            ask,
+            b"granted 0x40001234\n",
+            0,
+        ),
+        (
+            &[
+                (MEMORY + 0x2000, 0x4000_00e7),
+                (LARGEST_PAGES, 0x0000_000a_0000_0000),
+            ],
             ask,
             b"denied reserved 3\n",
             0,
@@ -178,8 +206,18 @@ fn the_walk_reads_the_tables_of_the_core(rt: HostRuntime) -> Result<(), Fail> {
             b"denied absent 4\ngranted 0x6234\n",
             0,
         ),
-        (&[(CR4, 0x0020_0020)], ask, b"line 1 refused: not built\n", 4),
-        (&[(CR3, 0x4000_0000_0000_1000)], ask, b"line 1 refused: not built\n", 4),
+        (
+            &[(CR4, 0x0020_0020)],
+            ask,
+            b"line 1 refused: not built\n",
+            4,
+        ),
+        (
+            &[(CR3, 0x4000_0000_0000_1000)],
+            ask,
+            b"line 1 refused: not built\n",
+            4,
+        ),
     ];
     for (changes, log, text, status) in cases {
         let mut core = example_core(rt.alloc())?;
@@ -210,7 +248,10 @@ fn a_core_is_refused_at_its_first_fault(rt: HostRuntime) -> Result<(), Fail> {
     let mut core = core;
     put(&mut core, CR3, &0x0100_0000_1000u64.to_le_bytes());
     let (written, code) = outcome(rt.alloc(), &core, b"")?;
-    assert_eq!(rt; written.as_slice(), b"core refused: note state 0 cr3-reserved\n".as_slice());
+    assert_eq!(rt;
+        written.as_slice(),
+        b"core refused: note state 0 cr3-reserved\n".as_slice()
+    );
     assert_eq!(rt; code, 3);
     Ok(())
 }

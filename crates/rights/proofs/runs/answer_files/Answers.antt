@@ -1,8 +1,7 @@
 use Rattle.std.proofs.Common.{◌≡◌, inl, inr, refl, []}
 use Rattle.outside.proofs.Counts.{Rose-earlier}
-use Rattle.std.specs.Prelude.{Ok, Err}
+use Rattle.std.specs.Prelude.{Ok}
 use Rattle.elf_core.specs.Cores.{core_of}
-use Rattle.elf_core.specs.declared.faults.CoreFault.{CoreFault}
 use Rattle.history_model.specs.History.{begun}
 use Rattle.history_model.specs.declared.statuses.Status.TheVariants.{CoreRefused}
 use Rattle.rights.specs.FixedTexts.{core_too_long_line}
@@ -28,18 +27,19 @@ returns-then-file-clause-ends g c =
 pub returns-clause-ends : goal.returns-clause-ends
 returns-clause-ends g c =
     let read = read_within (g.S.Shelf.told c.args.shelf.now c.args.core.now) core_limit _ c.in-Ok.file.bytes.items c.in-Ok.file.cut c.in-Ok.file.bytes.ok.0
-        c.in-Ok.ensures.whole c.in-Ok.ensures.missing c.in-Ok.ensures.bound c.if-file.false in
-    elim c.refuse_core.ensures.ends
-        [ inl unread ↦ inl unread
-        | inr refused ↦
-            let is = refused_as (core_of c.in-Ok.file.bytes.items) c.in-Err-parse.fault refused.0 (rw c.deref.ensures.value at c.in-Err-parse.ensures.refused) in
-            inr (record {
-              core = c.in-Ok.file.bytes.items;
-              log = [];
-              core_is = read.may_be;
-              log_is = λ taken. absurd (refused_accepted c.in-Ok.file.bytes.items c.in-Err-parse.fault is taken);
-              ends = core_refused c.in-Ok.file.bytes.items [] _ _ _ c.in-Err-parse.fault read.within is refused.1
-            }) ]
+    c.in-Ok.ensures.whole c.in-Ok.ensures.missing c.in-Ok.ensures.bound c.if-file.false in
+    elim c.refuse_core.ensures.ends [
+      | inl unread ↦ inl unread
+      | inr refused ↦
+          let is = refused_as (core_of c.in-Ok.file.bytes.items) c.in-Err-parse.fault refused.0 (rw c.deref.ensures.value at c.in-Err-parse.ensures.refused) in
+          inr (record {
+            core = c.in-Ok.file.bytes.items;
+            log = [];
+            core_is = read.may_be;
+            log_is = λ taken. absurd (refused_accepted c.in-Ok.file.bytes.items c.in-Err-parse.fault is taken);
+            ends = core_refused c.in-Ok.file.bytes.items [] _ _ _ c.in-Err-parse.fault read.within is refused.1;
+          })
+    ]
 
 pub returns-in-Ok-parse-clause-ends : goal.returns-in-Ok-parse-clause-ends
 returns-in-Ok-parse-clause-ends g c =
