@@ -1,4 +1,4 @@
-/* Answers `ask 0 sr ADDRESS` lines about a plain core: walks its tables, and writes one line by one write. It checks
+/* Answers `ask 0 sr ADDRESS` lines about a core: walks its tables, and writes one line by one write. It checks
    nothing of the core, and of a line no more than it needs. */
 #include <fcntl.h>
 #include <inttypes.h>
@@ -42,7 +42,7 @@ struct memory {
     uint64_t start, size, root;
 };
 
-/* Fields at the places that they have in every plain core. */
+/* Fields at the places that they have in every core. */
 static struct memory memory_of(const unsigned char *core)
 {
     return (struct memory){core + number_at(core + 128), number_at(core + 144), number_at(core + 152),

@@ -16,6 +16,7 @@ pub enum Event {
 /// Why a line is refused.
 #[derive(Clone, Copy, Debug, PartialEq, Eq)]
 pub enum Cause {
-    /// This version doesn't handle the line's form, or a form of a page that it meets.
+    /// This version doesn't handle the line: its form or its length, a processor that isn't known, or registers under
+    /// which an access depends on more than the walk.
     NotBuilt,
 }
