@@ -149,6 +149,46 @@ fn finds_reserved_bits(rt: HostRuntime) {
 }
 
 #[test]
+fn finds_each_reserved_bit_alone(rt: HostRuntime) {
+    let wide = settings(40, true, true);
+    let without_nxe = settings(40, true, false);
+    for bit in 13..=20u8 {
+        check(&rt, &wide, &[(2, 0x4000_00e7 | 1 << bit, Entry::Reserved)]);
+    }
+    for bit in 13..=29u8 {
+        check(&rt, &wide, &[(3, 0x4000_00e7 | 1 << bit, Entry::Reserved)]);
+    }
+    for bit in 40..=51u8 {
+        for level in 1..=5u8 {
+            check(&rt, &wide, &[(level, 0x2007 | 1 << bit, Entry::Reserved)]);
+        }
+        check(
+            &rt,
+            &wide,
+            &[
+                (2, 0x4000_00e7 | 1 << bit, Entry::Reserved),
+                (3, 0x4000_00e7 | 1 << bit, Entry::Reserved),
+            ],
+        );
+    }
+    for level in 1..=5u8 {
+        check(
+            &rt,
+            &without_nxe,
+            &[(level, 0x2007 | 1 << 63, Entry::Reserved)],
+        );
+    }
+    check(
+        &rt,
+        &without_nxe,
+        &[
+            (2, 0x4000_00e7 | 1 << 63, Entry::Reserved),
+            (3, 0x4000_00e7 | 1 << 63, Entry::Reserved),
+        ],
+    );
+}
+
+#[test]
 fn goes_by_the_settings(rt: HostRuntime) {
     let without_big = settings(40, false, true);
     check(

@@ -1,9 +1,8 @@
 -- One step of a walk, by what is read of the entry.
-use Rattle.std.proofs.Common.{◌≡◌, ℕ, zero, suc, ◌+◌, ◌-◌, ◌*◌, ◌<◌, refl, arith, Option, Some, None, sym, ap, ◌∙◌}
+use Rattle.std.proofs.Common.{◌≡◌, ℕ, zero, suc, ◌-◌, ◌<◌, refl, arith, Some, None, sym, ap, ◌∙◌}
 use Rattle.paging_model.specs.declared.registers.Settings.{Settings}
 use Rattle.paging_model.specs.declared.entries.Bits.{Bits}
 use Rattle.paging_model.specs.declared.entries.Entry.{Entry}
-use Rattle.paging_model.specs.declared.walks.Walk.{Walk}
 use Rattle.paging_model.specs.declared.walks.Walk.TheVariants.{Unknown, Absent}
 use Rattle.paging_model.specs.Memory.{Memory, entry_at}
 use Rattle.paging_model.specs.Entries.{entry_of}

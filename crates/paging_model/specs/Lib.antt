@@ -5,4 +5,6 @@ pub mod RegisterRules
 pub mod LinearAddress
 pub mod Entries
 pub mod Walking
+pub mod AccessRights
+pub mod Pointers
 pub mod WorkedExamples

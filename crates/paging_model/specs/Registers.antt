@@ -1,7 +1,7 @@
 -- The registers that paging goes by: their bits, each named once, and what they set.
 -- SDM 3A, "Control Registers" and "Paging Modes and Control Bits"; "Hierarchical Paging Structures: an Overview" for
 -- the root; "Process-Context Identifiers" for the PCID.
-use Rattle.std.specs.Prelude.{ℕ, ◌-◌, ◌≤◌, min, max, Bool, if◌then◌else◌}
+use Rattle.std.specs.Prelude.{ℕ, ◌-◌, min, max, Bool, if◌then◌else◌}
 use Rattle.std.proofs.Math.Nat.{le-max_left, max-le, min-le_right}
 use Rattle.std.proofs.Common.{lit≤}
 use Rattle.paging_model.specs.BitRanges.{bit, field, in_place}

@@ -1,21 +1,24 @@
 -- Examples that pin the definitions: their values were worked out from the manual by hand.
 -- The small memory: a PML4 at 0x1000, a PDPT at 0x2000, a PD at 0x3000 and a PT at 0x4000, which maps the page 0x0 to
 -- 0x5000 and the page 0x1000, without writes, to 0x6000; known up to 0x10000.
-use Rattle.std.specs.Prelude.{◌≡◌, ℕ, ◌+◌, ◌-◌, ◌*◌, ◌/◌, ◌%◌, ◌^◌, ◌==◌, ◌≤◌, ◌&&◌, Bool, true, false, Option, Some, None, Result, Ok, Err, List, [], ◌∷◌, nat_le, nat_lt, if◌then◌else◌}
-use Rattle.paging_model.specs.Memory.{Memory, Extent, byte_in, number_at}
-use Rattle.paging_model.specs.Registers.{pcid_of, root_of, settings_of}
+use Rattle.std.specs.Prelude.{◌≡◌, ℕ, ◌+◌, ◌-◌, ◌/◌, ◌%◌, ◌^◌, ◌&&◌, true, false, Some, None, Ok, Err, [], ◌∷◌, nat_le, nat_lt, if◌then◌else◌}
+use Rattle.paging_model.specs.Memory.{Memory, byte_in, number_at}
+use Rattle.paging_model.specs.Registers.{pcid_of, root_of}
 use Rattle.paging_model.specs.RegisterRules.{check_of}
 use Rattle.paging_model.specs.LinearAddress.{is_canonical, index}
 use Rattle.paging_model.specs.Entries.{entry_of, joined}
 use Rattle.paging_model.specs.Walking.{walk}
+use Rattle.paging_model.specs.AccessRights.{is_granted, denial_of}
+use Rattle.paging_model.specs.Pointers.{aim_of}
+use Rattle.paging_model.specs.declared.access.Access.TheVariants as access
+use Rattle.paging_model.specs.declared.access.Rule.TheVariants as rules
+use Rattle.paging_model.specs.declared.access.AimRule.TheVariants as aims
 use Rattle.paging_model.specs.declared.registers.Machine.{Machine}
 use Rattle.paging_model.specs.declared.registers.Settings.{Settings}
 use Rattle.paging_model.specs.declared.registers.Regs.{Regs}
 use Rattle.paging_model.specs.declared.registers.RegRule.TheVariants as rule
 use Rattle.paging_model.specs.declared.entries.Bits.{Bits}
-use Rattle.paging_model.specs.declared.entries.Entry.{Entry}
 use Rattle.paging_model.specs.declared.entries.Entry.TheVariants as entry
-use Rattle.paging_model.specs.declared.walks.Walk.{Walk}
 use Rattle.paging_model.specs.declared.walks.Walk.TheVariants as walked
 
 -- the eight bytes of a number at an address, over other memory
@@ -89,3 +92,30 @@ pub record OfWalks (settings : Settings) : Type 0 where
   pub large : walk (with_entry 0x3000 0x4010e7 small_memory) settings 0x1000 0x1234 ≡ walked.Mapped (record { frame = 0x401000; level = 2; bits = all; key = 0; global = false })
   pub five_levels : walk (with_entry 0x7000 0x1007 small_memory) (record settings { la57 = true }) 0x7000 0x0 ≡ walked.Mapped (record { frame = 0x5000; level = 1; bits = all; key = 0; global = false })
   pub five_levels_absent : walk (with_entry 0x7000 0x1007 small_memory) (record settings { la57 = true }) 0x7000 0x800000000000 ≡ walked.Absent 4
+
+-- of the small registers, with these changes
+pub record OfRights : Type 0 where
+  pub read_only : denial_of small_regs access.Sw no_write 0 ≡ Some rules.Write
+  pub without_wp : denial_of (record small_regs { cr0 = 0x80000001 }) access.Sw no_write 0 ≡ None
+  pub user_without_wp : denial_of (record small_regs { cr0 = 0x80000001 }) access.Uw no_write 0 ≡ Some rules.Write
+  pub smep : denial_of (record small_regs { cr4 = 0x300020 }) access.Sx all 0 ≡ Some rules.Smep
+  pub smap : denial_of (record small_regs { cr4 = 0x300020 }) access.Sr all 0 ≡ Some rules.Smap
+  pub smap_with_ac : denial_of (record small_regs { cr4 = 0x300020; ac = true }) access.Sr all 0 ≡ None
+  pub implicit_with_ac : denial_of (record small_regs { cr4 = 0x300020; ac = true }) access.Ir all 0 ≡ Some rules.Smap
+  pub supervisor_page : denial_of small_regs access.Ur (record { write = true; user = false; xd = false }) 0 ≡ Some rules.User
+  pub key_access : denial_of (record small_regs { cr4 = 0x400020; pkru = 0x40 }) access.Sr all 3 ≡ Some rules.Key
+  pub key_fetch : denial_of (record small_regs { cr4 = 0x400020; pkru = 0x40 }) access.Ux all 3 ≡ None
+  pub key_write : denial_of (record small_regs { cr4 = 0x400020; pkru = 0x80 }) access.Uw all 3 ≡ Some rules.Key
+  pub key_write_without_wp : denial_of (record small_regs { cr0 = 0x80000001; cr4 = 0x400020; pkru = 0x80 }) access.Sw all 3 ≡ None
+  pub granted : is_granted small_regs access.Ux all 0 ≡ true
+
+pub record OfPointers : Type 0 where
+  pub unmasked : aim_of small_regs access.Ur 0x7fff000000000000 ≡ Err aims.NotCanonical
+  pub user_48 : aim_of (record small_regs { cr3 = 0x4000000000001000 }) access.Ur 0x7fff000000000000 ≡ Ok 0
+  pub fetch : aim_of (record small_regs { cr3 = 0x4000000000001000 }) access.Ux 0x7fff000000000000 ≡ Err aims.NotCanonical
+  pub user_57_alone : aim_of (record small_regs { cr3 = 0x2000000000001000 }) access.Ur 0x4000000000000 ≡ Err aims.NotCanonical
+  pub supervisor : aim_of (record small_regs { cr4 = 0x10000020 }) access.Sr 0x80ff800000000000 ≡ Ok 0xffff800000000000
+  pub top_bit_differs : aim_of (record small_regs { cr4 = 0x10000020 }) access.Sr 0x80ff000000000000 ≡ Err aims.NotCanonical
+  pub lass_fetch : aim_of (record small_regs { cr4 = 0x8000020 }) access.Sx 0x0 ≡ Err aims.Lass
+  pub lass_user : aim_of (record small_regs { cr4 = 0x8000020 }) access.Ur 0xffff800000000000 ≡ Err aims.Lass
+  pub lass_read : aim_of (record small_regs { cr4 = 0x8000020 }) access.Sr 0x0 ≡ Ok 0

@@ -1,6 +1,6 @@
 //! Worked examples of the definitions, each a theorem that computes.
 
-ghost use Rattle.paging_model.specs.WorkedExamples.{OfMemory, OfAddresses, OfRegisters, OfEntries, OfWalks};
+ghost use Rattle.paging_model.specs.WorkedExamples.{OfMemory, OfAddresses, OfRegisters, OfEntries, OfWalks, OfRights, OfPointers};
 ghost use Rattle.paging_model.specs.declared.registers.Machine.{Machine};
 ghost use Rattle.paging_model.specs.declared.registers.Settings.{Settings};
 ghost use Rattle.std.specs.Prelude.{◌≡◌, true, false};
@@ -30,4 +30,16 @@ pub fn entries()
 #[tactic(auto, unfolding(crate::specs::Entries::entry_of, crate::specs::Entries::is_reserved, crate::specs::Walking::walk, crate::specs::Walking::walk_from, crate::specs::Memory::entry_at))]
 pub fn walks()
     ensures { (settings : Settings) → settings.m ≡ 40 → settings.big ≡ true → settings.la57 ≡ false → settings.nxe ≡ true → OfWalks settings }
+{}
+
+/// Accesses that are permitted or denied.
+#[tactic(auto, unfolding(crate::specs::AccessRights::denial_of, crate::specs::AccessRights::is_granted))]
+pub fn rights()
+    ensures { OfRights }
+{}
+
+/// Pointers, masked or not.
+#[tactic(auto, unfolding(crate::specs::Pointers::aim_of))]
+pub fn pointers()
+    ensures { OfPointers }
 {}

@@ -9,6 +9,8 @@ const CORE_LEN: usize = 65_832;
 /// Where the core's segment begins, which is memory from 0 on.
 const MEMORY: usize = 296;
 
+const MEMORY_LEN: usize = 152;
+
 const LARGEST_PAGES: usize = 204;
 
 const CR3: usize = 248;
@@ -159,8 +161,22 @@ type Change = (usize, u64);
 #[test]
 fn the_walk_reads_the_tables_of_the_core(rt: HostRuntime) -> Result<(), Fail> {
     let ask = b"ask 0 sr 0x1234\n".as_slice();
-    let cases: [(&[Change], &[u8], &[u8], u8); 10] = [
+    let cases: [(&[Change], &[u8], &[u8], u8); 12] = [
         (&[(CR3, 0x10000)], ask, b"denied unknown 4\n", 0),
+        // Of the entry at 0x4000 the first four bytes are known.
+        (
+            &[(MEMORY_LEN, 0x4004)],
+            b"ask 0 sr 0x0\n",
+            b"denied unknown 1\n",
+            0,
+        ),
+        // On both sides of the addresses that aren't canonical.
+        (
+            &[(MEMORY + 0x17f8, 0x2007), (MEMORY + 0x1800, 0x2007)],
+            b"ask 0 sr 0x7f8000001fff\nask 0 sr 0x7fffffffffff\nask 0 sr 0x800000000000\nask 0 sr 0xffff7fffffffffff\nask 0 sr 0xffff800000000000\n",
+            b"granted 0x6fff\ndenied absent 3\ndenied not-canonical\ndenied not-canonical\ngranted 0x5000\n",
+            0,
+        ),
         (
             &[(MEMORY + 0x3000, 0x0040_20e7)],
             ask,
