@@ -36,6 +36,7 @@ passed : {A E : Type 0} (broken : Bool) (fault : E) (rest : Result A E) (a : A) 
 passed true fault rest a h = absurd cc
 passed false fault rest a h = (refl, h)
 
+-- which of two values it is
 chosen : {A : Type 0} (b : Bool) (x y z : A) → cond b x y ≡ z → ((b ≡ true) × (x ≡ z)) ⊎ ((b ≡ false) × (y ≡ z))
 chosen true x y z h = inl (refl, h)
 chosen false x y z h = inr (refl, h)
@@ -46,6 +47,7 @@ done a = Ok a
 abbrev failed : {A E : Type 0} → E → Result A E
 failed fault = Err fault
 
+-- a value is told by its answer
 ok_is : {A E : Type 0} (a b : A) → done {E = E} a ≡ done b → a ≡ b
 ok_is a b h = cc
 
@@ -77,6 +79,7 @@ allowed_is : (made processor : Processor) (answer : Result (Unit {0}) RegRule) �
 allowed_is made processor (Ok u) h = (ok_is made processor h, refl)
 allowed_is made processor (Err broken) h = absurd cc
 
+-- a processor that is stated is new, there is room for it, and it is allowed
 new_processor : (core : Core) (description : List ℕ) (processor : Processor) → processor_stated core description ≡ Ok processor → IsNew core processor
 unfolding processor_stated
 new_processor core description processor h =
@@ -88,6 +91,7 @@ new_processor core description processor h =
     let fine = allowed_is made processor (check_of core.machine (regs_at description)) room.1 in
     subst (IsNew core) fine.0 (record { number = twice.0; room = leb-false 64 (length core.processors) room.0; regs = fine.1 })
 
+-- a machine ahead of all processors, and a processor that is new
 with_machine : (core : Core) (machine : Machine) → length core.processors ≡ 0 → IsConsistent core → IsConsistent (with_statement core (statement.Machine machine))
 with_machine core machine none consistent = record {
   few = consistent.few;
@@ -123,6 +127,7 @@ processor_keeps core description stated (Ok processor) answered consistent h =
     subst (λ s. IsConsistent (with_statement core s)) (ok_is (statement.Processor processor) stated h) (with_processor core processor (new_processor core description processor answered) consistent)
 processor_keeps core description stated (Err broken) answered consistent h = absurd cc
 
+-- what a state note states
 statement_keeps : (core : Core) (note : NoteParts) (stated : Statement) → IsConsistent core → statement_of core note ≡ Ok stated → IsConsistent (with_statement core stated)
 unfolding statement_of
 statement_keeps core note stated consistent h =

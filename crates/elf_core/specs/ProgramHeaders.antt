@@ -37,7 +37,7 @@ is_passed_over header = header.file_size == 0 || header.physical == 0xffffffffff
 abbrev pub is_in_file : List ℕ → ProgramHeader → Bool
 is_in_file bytes header = nat_le (header.offset + header.file_size) (length bytes)
 
--- memory ends below the greatest physical width
+-- memory ends within the greatest physical width, of 52 bits
 abbrev pub is_below_the_width : ProgramHeader → Bool
 is_below_the_width header = nat_le (header.physical + header.file_size) (2 ^ 52)
 

@@ -111,8 +111,8 @@ impl<'a> Core<'a> {
 ///
 /// # Errors
 ///
-/// The first refusal in the order of the file, with the number of the program header that it is about; `Memory` where
-/// memory ran out.
+/// The first refusal in the order of the file; one that is about a program header has its number. `Memory` where memory
+/// ran out.
 #[tactic(auto, unfolding(crate::specs::Cores::core_of))]
 pub fn parse<'a>(alloc: Global, bytes: &'a [u8]) -> Result<Core<'a>, CoreFault>
     ensures ok { IfOk result (λ core. core_of bytes.now ≡ Ok core) }

@@ -194,7 +194,7 @@ impl ProgramHeader {
         ends_within(bytes.len() as u64, self.offset, self.file_size)
     }
 
-    /// Whether the memory that the header places ends below the greatest physical width.
+    /// Whether the memory that the header places ends within the greatest physical width, of 52 bits.
     fn is_below_the_width(&self) -> bool
         ensures { result ≡ is_below_the_width self.now }
     {
