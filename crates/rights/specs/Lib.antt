@@ -3,6 +3,7 @@ pub mod Ends
 pub mod FixedTexts
 pub mod Forms
 pub mod Partway
+pub mod Radixes
 pub mod Replies
 pub mod Run
 pub mod Standing

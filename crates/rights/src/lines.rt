@@ -1,8 +1,9 @@
 //! The lines of a log, and the events that they spell.
 
-ghost use Rattle.std.specs.Prelude.{◌≡◌, ◌<◌, ◌∷◌, [], ℕ, List, length, IfSome, IfNone, Ok, Err};
+ghost use Rattle.std.specs.Prelude.{◌≡◌, ◌≢◌, ◌<◌, ◌∷◌, [], ℕ, List, All, length, take, slice_index, option_copied, IfSome, IfNone};
 ghost use Rattle.history_model.specs.Log.{lines_of, words_of};
-ghost use Rattle.history_model.specs.LogLine.{event_of as event_of_line};
+ghost use Rattle.history_model.specs.LogLine.{cpu_of as cpu_of_word, event_of as event_of_line, event_of_words};
+ghost use Rattle.rights.specs.Words.{words_behind, HasMoreWords};
 
 use crate::numbers::number;
 use history_model::events::{Cause, Event};
@@ -107,7 +108,3 @@ fn place_of(bytes: &[u8], byte: u8) -> Option<usize>
 {
     bytes.iter().position(|b| *b == byte)
 }
-
-ghost use Rattle.std.specs.Prelude.{◌≢◌, All, take, slice_index, option_copied};
-ghost use Rattle.history_model.specs.LogLine.{cpu_of as cpu_of_word, event_of_words};
-ghost use Rattle.rights.specs.Words.{words_behind, HasMoreWords};
