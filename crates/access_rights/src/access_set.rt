@@ -34,11 +34,11 @@ impl Rights {
         Rights { number: 0 }
     }
 
-    /// The set of all accesses.
-    pub fn all() -> Rights
-        ensures { (access : Access) → has result access ≡ true }
+    /// The set of a number.
+    pub fn of_number(number: u8) -> Rights
+        ensures { result ≡ number }
     {
-        Rights { number: 0xff }
+        Rights { number }
     }
 
     /// The set with an access too.
@@ -83,13 +83,6 @@ impl Rights {
         Rights {
             number: self.number & other.number,
         }
-    }
-
-    // The set of a number.
-    pub(crate) fn of_number(number: u8) -> Rights
-        ensures { result ≡ number }
-    {
-        Rights { number }
     }
 }
 

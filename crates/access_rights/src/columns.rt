@@ -7,21 +7,13 @@ ghost use Rattle.paging_model.specs.BitRanges.{bit};
 ghost use Rattle.paging_model.specs.declared.access.Access.{Access};
 
 use crate::access_set::Rights;
+use crate::set_numbers::{
+    DATA, FETCHES, IMPLICIT, NONE, SUPERVISOR_DATA, SUPERVISOR_FETCH, USER, USER_WRITE, WRITES,
+};
 use paging_model::entries::Bits;
 use paging_model::registers::Regs;
 use proc_regs::bit_ranges::bit;
 use proc_regs::register_bits::{CR0_WP, CR4_PKE, CR4_PKS, CR4_SMAP, CR4_SMEP};
-
-// The numbers of sets, from the right: Ur, Uw, Ux, Sr, Sw, Sx, Ir, Iw.
-const NONE: u8 = 0;
-const USER: u8 = 0b0000_0111;
-const SUPERVISOR_FETCH: u8 = 0b0010_0000;
-const SUPERVISOR_DATA: u8 = 0b1101_1000;
-const IMPLICIT: u8 = 0b1100_0000;
-const USER_WRITE: u8 = 0b0000_0010;
-const WRITES: u8 = 0b1001_0010;
-const FETCHES: u8 = 0b0010_0100;
-const DATA: u8 = 0b1101_1011;
 
 /// A user access to a supervisor page.
 pub fn user_refusals(bits: Bits) -> Rights

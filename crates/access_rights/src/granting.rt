@@ -9,6 +9,7 @@ use crate::access_set::Rights;
 use crate::columns::{
     key_refusals, smap_refusals, smep_refusals, user_refusals, write_refusals, xd_refusals,
 };
+use crate::set_numbers::ALL;
 use paging_model::access::{Access, Rule};
 use paging_model::entries::Bits;
 use paging_model::registers::Regs;
@@ -19,7 +20,7 @@ pub fn rights(regs: &Regs, bits: Bits, key: u8) -> Rights
     requires { key < 16 }
     ensures { (access : Access) → has result access ≡ is_granted regs.now access bits key }
 {
-    Rights::all()
+    Rights::of_number(ALL)
         .minus(&user_refusals(bits))
         .minus(&smep_refusals(regs, bits))
         .minus(&smap_refusals(regs, bits))

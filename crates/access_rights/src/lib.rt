@@ -8,6 +8,7 @@
 mod access_set;
 mod columns;
 mod granting;
+pub mod set_numbers;
 
 pub use access_set::Rights;
 pub use granting::{denial, rights};

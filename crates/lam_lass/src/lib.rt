@@ -1,13 +1,16 @@
-// A library with one function.
+//! From a pointer to the linear address that is walked: linear-address masking (LAM), canonicality, and linear-address
+//! space separation (LASS), in this order.
+//!
+//! `aim` gives the address that an access by a pointer goes to, or why it is refused before any table is read. `reach`
+//! gives the accesses that go to an address by the pointer that spells it. They are the rules of the manual's
+//! "Linear-Address Masking" and "Linear-Address Space Separation".
 #![tactic(auto)]
 
-ghost use Rattle.std.specs.Prelude.{◌≡◌};
-ghost use Rattle.lam_lass.specs.Echo.{echo_of};
+mod aiming;
+mod masking;
 
-// The `ensures` clause is the contract: what `echo` returns is `echo_of` of its argument, a definition
-// in `specs/Echo.antt`, which a caller's clause can cite too.
-pub fn echo(x: usize) -> usize
-    ensures { result ≡ echo_of x }
-{
-    x
-}
+pub use aiming::{aim, reach};
+pub use paging_model::access::AimRule;
+
+#[cfg(test)]
+mod tests;
