@@ -1,8 +1,7 @@
 -- Sets of accesses as numbers: what the operations on bits do to membership.
-use Rattle.std.proofs.Common.{ap, zero, suc, ℕ, ◌≡◌, ◌≢◌, ◌<◌, ◌+◌, ◌-◌, ◌*◌, ◌/◌, ◌%◌, ◌^◌, ◌&&◌, Bool, true, false, min, max, bit_and, bit_or, w8, lit<, refl, arith, sym, ◌∙◌}
+use Rattle.std.proofs.Common.{ap, zero, suc, ℕ, ◌≡◌, ◌<◌, ◌-◌, ◌*◌, ◌/◌, ◌%◌, ◌^◌, ◌&&◌, min, bit_and, w8, lit<, refl, arith, sym, ◌∙◌}
 use Rattle.std.specs.Prelude.{not, ◌==◌, if◌then◌else◌}
-use Rattle.std.specs.Int.{bit_at}
-use Rattle.std.proofs.lemmas.Nat.Bits.{bit_at_and, bit_at_not, bit_at_set_same, bit_at_set_other, bit_at-lt}
+use Rattle.std.proofs.lemmas.Nat.Bits.{bit_at_and, bit_at_not, bit_at-lt}
 use Rattle.std.proofs.lemmas.Bool.Decides.{nat_tests}
 use Rattle.paging_model.specs.BitRanges.{bit}
 use Rattle.paging_model.specs.declared.access.Access.{Access}

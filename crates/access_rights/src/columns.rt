@@ -1,9 +1,10 @@
 //! The rules that refuse accesses to a mapped page, a function each: the set of accesses that the rule refuses.
 
-ghost use Rattle.std.specs.Prelude.{◌≡◌, ℕ, ◌+◌, ◌*◌, ◌<◌};
+ghost use Rattle.std.specs.Prelude.{◌≡◌, ℕ, ◌+◌, ◌*◌, ◌<◌, if◌then◌else◌};
 ghost use Rattle.access_rights.specs.AccessSets.{has};
 ghost use Rattle.paging_model.specs.AccessRights.{access_disable, key_refuses, key_register as register_of, smap_refuses, smep_refuses, user_refuses, write_disable, write_refuses, xd_refuses};
 ghost use Rattle.paging_model.specs.BitRanges.{bit};
+ghost use Rattle.paging_model.specs.Registers.{wp};
 ghost use Rattle.paging_model.specs.declared.access.Access.{Access};
 
 use crate::access_set::Rights;
@@ -43,8 +44,8 @@ pub fn smap_refusals(regs: &Regs, bits: Bits) -> Rights
 pub fn write_refusals(regs: &Regs, bits: Bits) -> Rights
     ensures { (access : Access) → has result access ≡ write_refuses regs.now bits access }
 {
-    let kept_out = if bit(regs.cr0, CR0_WP) { WRITES } else { USER_WRITE };
-    Rights::of_number(if bits.write { NONE } else { kept_out })
+    let writes = stoppable_writes(regs);
+    Rights::of_number(if bits.write { NONE } else { writes })
 }
 
 /// A fetch from a page with XD.
@@ -62,9 +63,20 @@ pub fn key_refusals(regs: &Regs, bits: Bits, key: u8) -> Rights
     let register = u64::from(key_register(regs, bits));
     let access_disable = bit(register, 2 * key);
     let write_disable = bit(register, 2 * key + 1);
-    let writes = if bit(regs.cr0, CR0_WP) { WRITES } else { USER_WRITE };
+    let writes = stoppable_writes(regs);
     let kept_out = if write_disable { writes } else { NONE };
     Rights::of_number(if access_disable { DATA } else { kept_out })
+}
+
+// The number of the writes that R/W and WD can refuse: while WP is 0 the user's alone.
+fn stoppable_writes(regs: &Regs) -> u8
+    ensures { result ≡ (if wp regs.now then WRITES else USER_WRITE) }
+{
+    if bit(regs.cr0, CR0_WP) {
+        WRITES
+    } else {
+        USER_WRITE
+    }
 }
 
 // The register that holds AD and WD of the page's key, PKRU for a user page and PKRS for a supervisor page. Where it

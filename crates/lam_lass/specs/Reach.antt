@@ -14,7 +14,7 @@ is_at (Err _) address = false
 abbrev pub reaches : Regs → ℕ → Access → Bool
 reaches regs address access = is_at (aim_of regs access address) address
 
--- whether an address is there, and is the one
+-- whether there is an address, and it is the one given
 abbrev pub is_same : Option ℕ → ℕ → Bool
 is_same (Some found) address = found == address
 is_same None address = false

@@ -64,6 +64,7 @@ fn if_canonical(regs: &Regs, address: u64) -> Rights
 fn kept_by_masking(regs: &Regs, address: u64) -> Rights
     ensures { (access : Access) → has result access ≡ is_same (address_by (width_of regs.now access address) address) address }
 {
+    // The accesses that are masked are masked alike, those of the user and those of the supervisor.
     let width = mask_width(regs, Access::Ur, address);
     let kept = address_of(width, address) == Some(address);
     Rights::of_number(if kept { ALL } else { ALL ^ EXPLICIT_DATA })
@@ -80,5 +81,9 @@ fn lass_refusals(regs: &Regs, address: u64) -> Rights
         (true, true) => SUPERVISOR_FETCH | IMPLICIT,
     };
     let kept_out = if bit(address, UPPER) { USER } else { lower };
-    Rights::of_number(if bit(regs.cr4, CR4_LASS) { kept_out } else { NONE })
+    Rights::of_number(if bit(regs.cr4, CR4_LASS) {
+        kept_out
+    } else {
+        NONE
+    })
 }

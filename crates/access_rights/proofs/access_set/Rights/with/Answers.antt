@@ -1,8 +1,7 @@
-use Rattle.std.proofs.Common.{◌≡◌, ◌≢◌, ◌-◌, ◌<◌, ℕ, ap, sym, refl, ◌∙◌, rules, arith, w8}
+use Rattle.std.proofs.Common.{◌≢◌, sym, refl, ◌∙◌, w8}
 use Rattle.std.proofs.lemmas.Nat.Bits.{bit_at_set_same, bit_at_set_other}
-use Rattle.access_rights.proofs.SetBits.{bit-bit_and, bit-bit_not, place-lt, number_of-has, same_number, same_place}
-use Rattle.access_rights.specs.AccessSets.{has, number_of, place}
-use Rattle.paging_model.specs.declared.access.Access.{Access}
+use Rattle.access_rights.proofs.SetBits.{same_place}
+use Rattle.access_rights.specs.AccessSets.{place}
 use Rattle.access_rights.proofs.access_set.Rights.with.Goals as goal
 
 pub returns-clause-added : goal.returns-clause-added
