@@ -43,10 +43,10 @@ is_at-admitted regs access None x =
     sym (not_there (is_canonical (la57 regs) x) (lass regs && lass_refuses regs access x))
 
 -- an address is reached where it is canonical, masking leaves it as it is, and LASS doesn't keep its half
-pub reaches-is : (regs : Regs) (address : ℕ) (access : Access) →
+pub reaches_is : (regs : Regs) (address : ℕ) (access : Access) →
     reaches regs address access
     ≡ ((is_canonical (la57 regs) address && is_same (address_of (mask_width regs access address) address) address)
     && not (lass regs && lass_refuses regs access address))
 unfolding aim_of
-reaches-is regs address access =
+reaches_is regs address access =
     is_at-admitted regs access (address_of (mask_width regs access address) address) address

@@ -44,6 +44,7 @@ pub fn aim(regs: &Regs, access: Access, pointer: u64) -> Result<u64, AimRule>
 
 /// The accesses that go to an address by the pointer that spells it: those for which `aim` of the address is the address
 /// itself. Where it isn't canonical there are none.
+#[tactic(auto, using(crate::proofs::Reached::reaches_is))]
 pub fn reach(regs: &Regs, address: u64) -> Rights
     ensures { (access : Access) → has result access ≡ reaches regs.now address access }
 {
