@@ -1,0 +1,90 @@
+//! The address that an access by a pointer goes to.
+
+ghost use Rattle.std.specs.Prelude.{◌≡◌, ◌&&◌};
+ghost use Rattle.access_rights.specs.AccessSets.{has};
+ghost use Rattle.lam_lass.specs.Reach.{is_same, reaches};
+ghost use Rattle.paging_model.specs.LinearAddress.{is_canonical};
+ghost use Rattle.paging_model.specs.Pointers.{address_of as address_by, aim_of, lass_refuses, mask_width as width_of};
+ghost use Rattle.paging_model.specs.Registers.{la57, lass};
+ghost use Rattle.paging_model.specs.declared.access.Access.{Access};
+
+use crate::masking::{UPPER, address_of, mask_width};
+use access_rights::set_numbers::{
+    ALL, EXPLICIT_DATA, IMPLICIT, NONE, SUPERVISOR, SUPERVISOR_FETCH, USER,
+};
+use access_rights::{Access, Rights};
+use paging_model::access::AimRule;
+use paging_model::registers::Regs;
+use proc_regs::bit_ranges::bit;
+use proc_regs::canonical;
+use proc_regs::register_bits::{CR4_LA57, CR4_LASS, CR4_SMAP};
+
+/// The linear address that an access by a pointer goes to.
+///
+/// # Errors
+///
+/// The first that applies: the pointer's bit 63 isn't the highest bit of the address that it is masked to, or the
+/// address isn't canonical (`NotCanonical`); the address lies in the half that LASS keeps from the access (`Lass`).
+#[tactic(auto, unfolding(paging_model::specs::Pointers::aim_of))]
+pub fn aim(regs: &Regs, access: Access, pointer: u64) -> Result<u64, AimRule>
+    ensures { result ≡ aim_of regs.now access pointer }
+{
+    let width = mask_width(regs, access, pointer);
+    let Some(address) = address_of(width, pointer) else {
+        return Err(AimRule::NotCanonical);
+    };
+    if !canonical(bit(regs.cr4, CR4_LA57), address) {
+        return Err(AimRule::NotCanonical);
+    }
+    if lass_refusals(regs, address).has(access) {
+        return Err(AimRule::Lass);
+    }
+    Ok(address)
+}
+
+/// The accesses that go to an address by the pointer that spells it: those for which `aim` of the address is the address
+/// itself. Where it isn't canonical there are none.
+#[tactic(auto, using(crate::proofs::Reached::reaches_is))]
+pub fn reach(regs: &Regs, address: u64) -> Rights
+    ensures { (access : Access) → has result access ≡ reaches regs.now address access }
+{
+    if_canonical(regs, address)
+        .meet(&kept_by_masking(regs, address))
+        .minus(&lass_refusals(regs, address))
+}
+
+// Each access where an address is canonical, else none.
+fn if_canonical(regs: &Regs, address: u64) -> Rights
+    ensures { (access : Access) → has result access ≡ is_canonical (la57 regs.now) address }
+{
+    let canonical = canonical(bit(regs.cr4, CR4_LA57), address);
+    Rights::of_number(if canonical { ALL } else { NONE })
+}
+
+// The accesses whose masking leaves an address as it is.
+fn kept_by_masking(regs: &Regs, address: u64) -> Rights
+    ensures { (access : Access) → has result access ≡ is_same (address_by (width_of regs.now access address) address) address }
+{
+    // The accesses that are masked are masked alike, those of the user and those of the supervisor.
+    let width = mask_width(regs, Access::Ur, address);
+    let kept = address_of(width, address) == Some(address);
+    Rights::of_number(if kept { ALL } else { ALL ^ EXPLICIT_DATA })
+}
+
+// The accesses from which LASS keeps the half of an address.
+fn lass_refusals(regs: &Regs, address: u64) -> Rights
+    ensures { (access : Access) → has result access ≡ (lass regs.now && lass_refuses regs.now access address) }
+{
+    // Supervisor data accesses are kept from the lower half while SMAP is on, explicit ones while AC is 0.
+    let lower = match (bit(regs.cr4, CR4_SMAP), regs.ac) {
+        (false, _) => SUPERVISOR_FETCH,
+        (true, false) => SUPERVISOR,
+        (true, true) => SUPERVISOR_FETCH | IMPLICIT,
+    };
+    let kept_out = if bit(address, UPPER) { USER } else { lower };
+    Rights::of_number(if bit(regs.cr4, CR4_LASS) {
+        kept_out
+    } else {
+        NONE
+    })
+}
