@@ -1,57 +1,67 @@
-/* Sums the numbers of many sets of rights, by the rules of access rights and protection keys in plain C. */
-#include <inttypes.h>
+/* Takes the rights of many pages, and prints the sum of their numbers. */
 #include <stdbool.h>
 #include <stdint.h>
 #include <stdio.h>
 
+enum { CALLS = 200000000 };
+
 struct regs {
-    uint64_t cr0, cr4;
+    uint64_t cr0, cr3, cr4, efer;
     bool ac;
     uint32_t pkru, pkrs;
 };
 
-enum { UR = 1, UW = 2, UX = 4, SR = 8, SW = 16, SX = 32, IR = 64, IW = 128 };
+struct bits {
+    bool write, user, xd;
+};
 
-static bool bit(uint64_t number, unsigned index) { return number >> index & 1; }
-
-static unsigned rights(const struct regs *regs, bool write, bool user, bool xd, unsigned key) {
-    unsigned granted = 255;
-    bool wp = bit(regs->cr0, 16);
-    if (!user)
-        granted &= ~(UR | UW | UX);
-    if (user && bit(regs->cr4, 20))
-        granted &= ~SX;
-    if (user && bit(regs->cr4, 21)) {
-        granted &= ~(IR | IW);
-        if (!regs->ac)
-            granted &= ~(SR | SW);
-    }
-    if (!write)
-        granted &= wp ? ~(UW | SW | IW) : ~UW;
-    if (xd)
-        granted &= ~(UX | SX);
-    if (user ? bit(regs->cr4, 22) : bit(regs->cr4, 24)) {
-        uint32_t keys = user ? regs->pkru : regs->pkrs;
-        if (bit(keys, 2 * key))
-            granted &= ~(UR | UW | SR | SW | IR | IW);
-        if (bit(keys, 2 * key + 1))
-            granted &= wp ? ~(UW | SW | IW) : ~UW;
-    }
-    return granted;
+static bool bit(uint64_t number, int index)
+{
+    return number >> index & 1;
 }
 
-int main(void) {
+/* Bits from the lowest: user read, write and fetch, supervisor read, write and fetch, implicit read and write. */
+static uint8_t rights(const struct regs *regs, struct bits bits, int key)
+{
+    uint8_t writes = bit(regs->cr0, 16) ? 0x92 : 0x02;
+    uint32_t user_keys = bit(regs->cr4, 22) ? regs->pkru : 0;
+    uint32_t supervisor_keys = bit(regs->cr4, 24) ? regs->pkrs : 0;
+    uint32_t disable = (bits.user ? user_keys : supervisor_keys) >> 2 * key;
+    uint8_t refused = 0;
+
+    if (!bits.user)
+        refused |= 0x07;
+    if (bits.user && bit(regs->cr4, 20))
+        refused |= 0x20;
+    if (bits.user && bit(regs->cr4, 21))
+        refused |= regs->ac ? 0xc0 : 0xd8;
+    if (!bits.write)
+        refused |= writes;
+    if (bits.xd)
+        refused |= 0x24;
+    if (disable & 1)
+        refused |= 0xdb;
+    if (disable & 2)
+        refused |= writes;
+    return ~refused;
+}
+
+int main(void)
+{
     uint64_t state = 1, sum = 0;
-    for (int i = 0; i < 100000000; i++) {
-        state = state * UINT64_C(6364136223846793005) + UINT64_C(1442695040888963407);
+
+    for (int i = 0; i < CALLS; i++) {
+        state = state * 6364136223846793005u + 1442695040888963407u;
         struct regs regs = {
-            .cr0 = state >> 3,
-            .cr4 = state >> 11,
-            .ac = state >> 40 & 1,
-            .pkru = (uint32_t)(state >> 16),
+            .cr0 = state >> 8,
+            .cr4 = state >> 16,
+            .ac = bit(state, 48),
+            .pkru = (uint32_t)(state >> 20),
             .pkrs = (uint32_t)(state >> 24),
         };
-        sum += rights(&regs, state >> 41 & 1, state >> 42 & 1, state >> 43 & 1, state >> 50 & 15);
+        struct bits bits = {bit(state, 60), bit(state, 61), bit(state, 62)};
+        sum += rights(&regs, bits, state >> 56 & 15);
     }
-    printf("%" PRIu64 "\n", sum);
+    printf("%lu\n", sum);
+    return 0;
 }

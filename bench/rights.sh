@@ -1,7 +1,8 @@
 #!/usr/bin/env bash
-# 10^8 calls of `rights` over registers, bits and keys of chance: a C program that says the same rules in plain C, and
-# the proved crate. Prints each one's median of five runs as a ratio to that of the C program, and the nanoseconds a call
-# in brackets are the seconds times ten.
+# The rights of 200 million pages, with registers, bits and keys from a random-number generator that both programs run: a
+# C program with the same masks, and a proved program that calls `access_rights::rights`, written into a temporary copy
+# of that crate and the crates below it. Prints each one's median of five runs as a ratio to that of the C program; 5 ns
+# a call make a second.
 set -euo pipefail
 
 bench=$(dirname "$(readlink -f "${BASH_SOURCE[0]}")")
@@ -9,57 +10,60 @@ top=$bench/..
 work=$(mktemp -d)
 trap 'rm -rf "$work"' EXIT
 
-gcc -O2 -Wall -Wextra -o "$work/rights_c" "$bench/rights.c"
+gcc -O2 -Wall -Wextra -o "$work/rights" "$bench/rights.c"
 
-# A program over the crate, in a repository of its own: the gate has none of it.
-mkdir -p "$work/repo/crates/rights_bench/src" "$work/repo/crates/rights_bench/specs"
-for crate in paging_model proc_regs access_rights; do
-    mkdir "$work/repo/crates/$crate"
-    cp -r "$top/crates/$crate"/{src,specs,proofs} "$work/repo/crates/$crate" 2>/dev/null || true
-done
-grep -E '^(paging_model|proc_regs|access_rights):' "$top/crates.txt" >"$work/repo/crates.txt"
-echo 'rights_bench: access_rights proc_regs paging_model' >>"$work/repo/crates.txt"
-cp "$top/HANDLES" "$work/repo"
-: >"$work/repo/crates/rights_bench/specs/Lib.antt"
-cat >"$work/repo/crates/rights_bench/src/main.rt" <<'PROGRAM'
-//! Sums the numbers of many sets of rights.
+git init -q "$work"
+mkdir -p "$work/crates/many_rights/src"
+cp -r "$top"/crates/{paging_model,proc_regs,access_rights} "$work/crates"
+grep -E '^(paging_model|proc_regs|access_rights):' "$top/crates.txt" >"$work/crates.txt"
+echo 'many_rights: access_rights paging_model' >>"$work/crates.txt"
+cat >"$work/crates/many_rights/src/main.rt" <<'SOURCE'
+//! Takes the rights of many pages, and prints the sum of their numbers.
 #![tactic(auto)]
 
 use access_rights::rights;
 use paging_model::entries::Bits;
-use proc_regs::Regs;
+use paging_model::registers::Regs;
 use std::io;
+
+const CALLS: u32 = 200_000_000;
 
 fn main(rt: HostRuntime) -> io::Result<()> {
     let mut state = 1u64;
     let mut sum = 0u64;
-    for _ in 0..100_000_000u32 {
-        state = state.wrapping_mul(6364136223846793005).wrapping_add(1442695040888963407);
-        let regs = Regs {
-            cr0: state >> 3,
-            cr3: 0x1000,
-            cr4: state >> 11,
-            efer: 0xd00,
-            ac: (state >> 40) % 2 == 1,
-            pkru: ((state >> 16) % (1 << 32)) as u32,
-            pkrs: ((state >> 24) % (1 << 32)) as u32,
-        };
-        let bits = Bits {
-            write: (state >> 41) % 2 == 1,
-            user: (state >> 42) % 2 == 1,
-            xd: (state >> 43) % 2 == 1,
-        };
-        let key = ((state >> 50) % 16) as u8;
-        sum = sum.wrapping_add(u64::from(rights(&regs, bits, key).number()));
+    for _ in 0..CALLS {
+        state = state
+            .wrapping_mul(6364136223846793005)
+            .wrapping_add(1442695040888963407);
+        sum = sum.wrapping_add(number_of(state));
     }
     println!(rt; "{sum}")
 }
-PROGRAM
 
-(cd "$work/repo/crates/rights_bench" && rt run >"$work/built" 2>&1) || { cat "$work/built" >&2; exit 1; }
-program=$work/repo/crates/rights_bench/out/rights_bench
+// The number of the rights under registers and of a page made of a random number.
+fn number_of(state: u64) -> u64 {
+    let regs = Regs {
+        cr0: state >> 8,
+        cr3: 0,
+        cr4: state >> 16,
+        efer: 0,
+        ac: state >> 48 & 1 == 1,
+        pkru: (state >> 20 & 0xffff_ffff) as u32,
+        pkrs: (state >> 24 & 0xffff_ffff) as u32,
+    };
+    let bits = Bits {
+        write: state >> 60 & 1 == 1,
+        user: state >> 61 & 1 == 1,
+        xd: state >> 62 & 1 == 1,
+    };
+    u64::from(rights(&regs, bits, (state >> 56 & 15) as u8).number())
+}
+SOURCE
+"$work/rights" >"$work/crates/many_rights/stdout"
+said=$(cd "$work/crates/many_rights" && rt run </dev/null 2>&1) || { printf '%s\n' "$said" >&2; exit 1; }
+program=$work/crates/many_rights/out/many_rights
 
-# The two are to come to the same sum.
-cmp <("$work/rights_c") <("$program")
+# The two are to print the same sum.
+cmp <("$work/rights") <("$program")
 
-"$bench/ratios.py" rights.c "$work/rights_c" "rights" "$program"
+"$bench/ratios.py" rights.c "'$work/rights'" "rights" "'$program'"

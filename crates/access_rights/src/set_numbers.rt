@@ -16,8 +16,6 @@ pub const SUPERVISOR_FETCH: u8 = 0b0010_0000;
 pub const SUPERVISOR_DATA: u8 = 0b1101_1000;
 /// Implicit supervisor data accesses.
 pub const IMPLICIT: u8 = 0b1100_0000;
-/// Explicit data accesses.
-pub const EXPLICIT_DATA: u8 = 0b0001_1011;
 /// Data accesses.
 pub const DATA: u8 = 0b1101_1011;
 /// Writes.

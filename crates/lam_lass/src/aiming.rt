@@ -10,7 +10,7 @@ ghost use Rattle.paging_model.specs.declared.access.Access.{Access};
 
 use crate::masking::{UPPER, address_of, mask_width};
 use access_rights::set_numbers::{
-    ALL, EXPLICIT_DATA, IMPLICIT, NONE, SUPERVISOR, SUPERVISOR_FETCH, USER,
+    ALL, FETCHES, IMPLICIT, NONE, SUPERVISOR, SUPERVISOR_FETCH, USER,
 };
 use access_rights::{Access, Rights};
 use paging_model::access::AimRule;
@@ -68,7 +68,7 @@ fn kept_by_masking(regs: &Regs, address: u64) -> Rights
     // The accesses that are masked are masked alike, those of the user and those of the supervisor.
     let width = mask_width(regs, Access::Ur, address);
     let kept = address_of(width, address) == Some(address);
-    Rights::of_number(if kept { ALL } else { ALL ^ EXPLICIT_DATA })
+    Rights::of_number(if kept { ALL } else { FETCHES | IMPLICIT })
 }
 
 // The accesses from which LASS keeps the half of an address.
