@@ -1,16 +1,16 @@
 //! The rules that refuse accesses to a mapped page, a function each: the set of accesses that the rule refuses.
 
 ghost use Rattle.std.specs.Prelude.{◌≡◌, ℕ, ◌+◌, ◌*◌, ◌<◌, if◌then◌else◌};
-ghost use Rattle.access_rights.specs.AccessSets.{has};
+ghost use Rattle.paging_model.specs.AccessSets.{has};
 ghost use Rattle.paging_model.specs.AccessRights.{access_disable, key_refuses, key_register as register_of, smap_refuses, smep_refuses, user_refuses, write_disable, write_refuses, xd_refuses};
 ghost use Rattle.paging_model.specs.BitRanges.{bit};
 ghost use Rattle.paging_model.specs.Registers.{wp};
 ghost use Rattle.paging_model.specs.declared.access.Access.{Access};
 
-use crate::access_set::Rights;
 use crate::set_numbers::{
     DATA, FETCHES, IMPLICIT, NONE, SUPERVISOR_DATA, SUPERVISOR_FETCH, USER, USER_WRITE, WRITES,
 };
+use paging_model::access_sets::Rights;
 use paging_model::entries::Bits;
 use paging_model::registers::Regs;
 use proc_regs::bit_ranges::bit;

@@ -1,16 +1,16 @@
 //! The accesses that a mapped page permits, and why it refuses one.
 
 ghost use Rattle.std.specs.Prelude.{◌≡◌, ◌↔◌, ◌<◌, IsNone, IsTrue};
-ghost use Rattle.access_rights.specs.AccessSets.{has};
+ghost use Rattle.paging_model.specs.AccessSets.{has};
 ghost use Rattle.paging_model.specs.AccessRights.{denial_of, is_granted};
 ghost use Rattle.paging_model.specs.declared.access.Access.{Access};
 
-use crate::access_set::Rights;
 use crate::columns::{
     key_refusals, smap_refusals, smep_refusals, user_refusals, write_refusals, xd_refusals,
 };
 use crate::set_numbers::ALL;
 use paging_model::access::{Access, Rule};
+use paging_model::access_sets::Rights;
 use paging_model::entries::Bits;
 use paging_model::registers::Regs;
 

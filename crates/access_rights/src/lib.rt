@@ -5,14 +5,13 @@
 //! one access. They are the rules of the manual's "Determination of Access Rights" and "Protection Keys".
 #![tactic(auto)]
 
-mod access_set;
 mod columns;
 mod granting;
 pub mod set_numbers;
 
-pub use access_set::Rights;
 pub use granting::{denial, rights};
 pub use paging_model::access::{Access, Rule};
+pub use paging_model::access_sets::Rights;
 
 #[cfg(test)]
 mod tests;

@@ -67,20 +67,6 @@ fn check(rt: &impl Abort, rows: &[(Regs, Bits, u8)]) {
 }
 
 #[test]
-fn keeps_sets(rt: HostRuntime) {
-    let reads = Rights::none()
-        .with(Access::Ur)
-        .with(Access::Sr)
-        .with(Access::Ir);
-    let user = Rights::none().with(Access::Uw).with(Access::Ur);
-    assert_eq!(rt; reads.number(), 0b0100_1001);
-    assert!(rt; reads.has(Access::Ir) && !reads.has(Access::Iw));
-    assert_eq!(rt; reads.minus(&user).number(), 0b0100_1000);
-    assert_eq!(rt; reads.meet(&user), Rights::none().with(Access::Ur));
-    assert_eq!(rt; Rights::of_number(0b0100_1001), reads);
-}
-
-#[test]
 fn goes_by_the_half_and_smep(rt: HostRuntime) {
     check(
         &rt,

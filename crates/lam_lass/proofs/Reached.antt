@@ -4,12 +4,12 @@ use Rattle.std.specs.Prelude.{not, ◌==◌, if◌then◌else◌}
 use Rattle.std.proofs.lemmas.Grind.{common_steps}
 use Rattle.std.proofs.lemmas.Bool.Decides.{nat_tests}
 use Rattle.paging_model.specs.LinearAddress.{is_canonical}
-use Rattle.paging_model.specs.Pointers.{admitted, address_of, aim_of, lass_refuses, mask_width}
+use Rattle.paging_model.specs.Pointers.{admitted, address_of, aim_of, is_at, lass_refuses, mask_width, reaches}
 use Rattle.paging_model.specs.Registers.{la57, lass}
 use Rattle.paging_model.specs.declared.registers.Regs.{Regs}
 use Rattle.paging_model.specs.declared.access.Access.{Access}
 use Rattle.paging_model.specs.declared.access.AimRule.TheVariants.{NotCanonical, Lass}
-use Rattle.lam_lass.specs.Reach.{is_at, is_same, reaches}
+use Rattle.lam_lass.specs.Reach.{is_same}
 
 at_itself : (canonical refused : Bool) (x : ℕ) → is_at (if not canonical then Err NotCanonical else (if refused then Err Lass else Ok x)) x ≡ ((canonical && x == x) && not refused)
 at_itself true true x = grind (arith, common_steps, nat_tests)

@@ -1,10 +1,10 @@
 //! The address that an access by a pointer goes to.
 
 ghost use Rattle.std.specs.Prelude.{◌≡◌, ◌&&◌};
-ghost use Rattle.access_rights.specs.AccessSets.{has};
-ghost use Rattle.lam_lass.specs.Reach.{is_same, reaches};
+ghost use Rattle.paging_model.specs.AccessSets.{has};
+ghost use Rattle.lam_lass.specs.Reach.{is_same};
 ghost use Rattle.paging_model.specs.LinearAddress.{is_canonical};
-ghost use Rattle.paging_model.specs.Pointers.{address_of as address_by, aim_of, lass_refuses, mask_width as width_of};
+ghost use Rattle.paging_model.specs.Pointers.{address_of as address_by, aim_of, lass_refuses, mask_width as width_of, reaches};
 ghost use Rattle.paging_model.specs.Registers.{la57, lass};
 ghost use Rattle.paging_model.specs.declared.access.Access.{Access};
 

@@ -49,11 +49,12 @@ abbrev pub key_register : Regs → Bits → Option ℕ
 key_register regs bits =
     if bits.user then (if pke regs then Some regs.pkru else None) else (if pks regs then Some regs.pkrs else None)
 
--- AD, access disable, and WD, write disable, of a key
+-- AD, access disable, of a key
 abbrev pub access_disable : Option ℕ → ℕ → Bool
 access_disable (Some register) key = bit register (2 * key)
 access_disable None key = false
 
+-- WD, write disable, of a key
 abbrev pub write_disable : Option ℕ → ℕ → Bool
 write_disable (Some register) key = bit register (2 * key + 1)
 write_disable None key = false

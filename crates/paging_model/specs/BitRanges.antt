@@ -1,4 +1,5 @@
--- Ranges of bits of a number. Bit 0 is the lowest; bits high:low are those from high down to low.
+-- Ranges of bits of a number, in the notation of SDM 1, "Bit and Byte Order": bit 0 is the lowest; bits high:low are those
+-- from high down to low.
 use Rattle.std.specs.Prelude.{ℕ, ◌+◌, ◌-◌, ◌*◌, ◌/◌, ◌%◌, ◌^◌, Bool, true, false, not, ◌==◌}
 
 -- whether the bit is 1

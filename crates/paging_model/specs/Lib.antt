@@ -7,4 +7,10 @@ pub mod Entries
 pub mod Walking
 pub mod AccessRights
 pub mod Pointers
+pub mod AccessSets
+pub mod Translations
+pub mod Listings
+pub mod Counting
+pub mod TableUses
 pub mod WorkedExamples
+pub mod WorkedSpaces

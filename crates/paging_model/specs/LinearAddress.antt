@@ -1,6 +1,6 @@
 -- Linear addresses: which are canonical, and how an address selects an entry of each table.
 -- SDM 1, "Canonical Addressing"; SDM 3A, "4-Level Paging and 5-Level Paging".
-use Rattle.std.specs.Prelude.{ℕ, ◌+◌, ◌-◌, ◌*◌, ◌/◌, ◌%◌, ◌^◌, ◌||◌, ◌==◌, Bool, if◌then◌else◌}
+use Rattle.std.specs.Prelude.{◌≡◌, ℕ, ◌+◌, ◌-◌, ◌*◌, ◌/◌, ◌%◌, ◌^◌, ◌<◌, ◌||◌, ◌==◌, Bool, IsTrue, if◌then◌else◌}
 use Rattle.paging_model.specs.BitRanges.{field}
 
 -- bits 63:56 are equal with 5 levels, bits 63:47 with 4
@@ -15,3 +15,9 @@ span level = 2 ^ (12 + 9 * (level - 1))
 -- which entry of its table serves an address: bits 20:12 at level 1, 29:21 at 2, 38:30 at 3, 47:39 at 4, 56:48 at 5
 abbrev pub index : ℕ → ℕ → ℕ
 index level x = x / span level % 512
+
+-- the first address of a 4-KByte page of canonical addresses
+pub record IsPage (five_levels : Bool) (x : ℕ) : Type 0 where
+  pub below : x < 2 ^ 64
+  pub aligned : x % 4096 ≡ 0
+  pub canonical : IsTrue (is_canonical five_levels x)

@@ -1,4 +1,5 @@
 -- Physical memory: bytes at physical addresses, of which some aren't known.
+-- System V gABI, "Program Header" for what a core knows; SDM 1, "Bit and Byte Order" for numbers of several bytes.
 use Rattle.std.specs.Prelude.{ℕ, zero, suc, ◌+◌, ◌-◌, ◌*◌, ◌^◌, ◌<◌, ◌≤◌, ◌&&◌, List, [], ◌∷◌, length, slice_index, Option, Some, None, option_map, option_and_then, Bool, nat_le, nat_lt, if◌then◌else◌}
 
 -- what is known of memory: the byte at an address, or none
@@ -10,6 +11,7 @@ pub record Extent : Type 0 where
   pub start : ℕ
   pub bytes : List ℕ
 
+-- the address lies in the extent
 abbrev pub covers : Extent → ℕ → Bool
 covers extent a = nat_le extent.start a && nat_lt a (extent.start + length extent.bytes)
 

@@ -1,6 +1,6 @@
 -- From a pointer to the linear address that is walked: masking, then canonicality, then the separation of the halves.
 -- SDM 3A, "Linear-Address Masking" and "Linear-Address Space Separation".
-use Rattle.std.specs.Prelude.{ℕ, ◌+◌, ◌-◌, ◌^◌, ◌&&◌, not, Bool, true, false, Option, Some, None, Result, Ok, Err, if◌then◌else◌}
+use Rattle.std.specs.Prelude.{ℕ, ◌+◌, ◌-◌, ◌^◌, ◌&&◌, ◌==◌, not, Bool, true, false, Option, Some, None, Result, Ok, Err, if◌then◌else◌}
 use Rattle.paging_model.specs.BitRanges.{bit, field, differs}
 use Rattle.paging_model.specs.Registers.{la57, smap, lass, lam_sup, lam_u57, lam_u48}
 use Rattle.paging_model.specs.LinearAddress.{is_canonical}
@@ -31,6 +31,7 @@ mask_width regs access pointer =
     then (if lam_sup regs then Some (if la57 regs then 57 else 48) else None)
     else (if lam_u57 regs then Some 57 else (if lam_u48 regs then Some 48 else None)))
 
+-- the number, where the bit is 1
 abbrev pub number_if : Bool → ℕ → ℕ
 number_if true n = n
 number_if false n = 0
@@ -58,6 +59,7 @@ lass_refuses regs Sw address = not (is_upper address) && smap regs && not regs.a
 lass_refuses regs Ir address = not (is_upper address) && smap regs
 lass_refuses regs Iw address = not (is_upper address) && smap regs
 
+-- the address, where it is canonical and LASS keeps no access from it
 abbrev pub admitted : Regs → Access → Option ℕ → Result ℕ AimRule
 admitted regs access None = Err NotCanonical
 admitted regs access (Some address) =
@@ -67,3 +69,12 @@ admitted regs access (Some address) =
 -- the address that a pointer aims an access at, or the first rule that refuses it
 unfoldable pub aim_of : Regs → Access → ℕ → Result ℕ AimRule
 aim_of regs access pointer = admitted regs access (address_of (mask_width regs access pointer) pointer)
+
+-- whether an aim is at the address
+abbrev pub is_at : Result ℕ AimRule → ℕ → Bool
+is_at (Ok aimed) address = aimed == address
+is_at (Err _) address = false
+
+-- whether an access by the pointer that spells the address goes to that address
+abbrev pub reaches : Regs → ℕ → Access → Bool
+reaches regs address access = is_at (aim_of regs access address) address

@@ -9,63 +9,75 @@ use Rattle.paging_model.specs.declared.registers.Machine.{Machine}
 use Rattle.paging_model.specs.declared.registers.Settings.{Settings}
 use Rattle.paging_model.specs.declared.registers.Regs.{Regs}
 
--- CR0: protection, supervisor write protection, paging
+-- CR0.PE: protection
 abbrev pub pe : Regs → Bool
 pe regs = bit regs.cr0 0
 
+-- CR0.WP: supervisor writes go by R/W
 abbrev pub wp : Regs → Bool
 wp regs = bit regs.cr0 16
 
+-- CR0.PG: paging
 abbrev pub pg : Regs → Bool
 pg regs = bit regs.cr0 31
 
--- CR3: linear-address masking of user pointers
+-- CR3.LAM_U57: masking of user pointers to 57 bits
 abbrev pub lam_u57 : Regs → Bool
 lam_u57 regs = bit regs.cr3 61
 
+-- CR3.LAM_U48: masking of user pointers to 48 bits
 abbrev pub lam_u48 : Regs → Bool
 lam_u48 regs = bit regs.cr3 62
 
--- CR4: physical-address extension, global pages, 5-level paging, PCIDs, supervisor-mode execution and access
--- prevention, protection keys of user and of supervisor pages, linear-address space separation, masking of
--- supervisor pointers
+-- CR4.PAE: physical-address extension
 abbrev pub pae : Regs → Bool
 pae regs = bit regs.cr4 5
 
+-- CR4.PGE: global pages
 abbrev pub pge : Regs → Bool
 pge regs = bit regs.cr4 7
 
+-- CR4.LA57: 5-level paging
 abbrev pub la57 : Regs → Bool
 la57 regs = bit regs.cr4 12
 
+-- CR4.PCIDE: process-context identifiers
 abbrev pub pcide : Regs → Bool
 pcide regs = bit regs.cr4 17
 
+-- CR4.SMEP: supervisor-mode execution prevention
 abbrev pub smep : Regs → Bool
 smep regs = bit regs.cr4 20
 
+-- CR4.SMAP: supervisor-mode access prevention
 abbrev pub smap : Regs → Bool
 smap regs = bit regs.cr4 21
 
+-- CR4.PKE: protection keys of user pages
 abbrev pub pke : Regs → Bool
 pke regs = bit regs.cr4 22
 
+-- CR4.PKS: protection keys of supervisor pages
 abbrev pub pks : Regs → Bool
 pks regs = bit regs.cr4 24
 
+-- CR4.LASS: linear-address space separation
 abbrev pub lass : Regs → Bool
 lass regs = bit regs.cr4 27
 
+-- CR4.LAM_SUP: masking of supervisor pointers
 abbrev pub lam_sup : Regs → Bool
 lam_sup regs = bit regs.cr4 28
 
--- EFER: IA-32e mode enabled and active, execute-disable
+-- EFER.LME: IA-32e mode enabled
 abbrev pub lme : Regs → Bool
 lme regs = bit regs.efer 8
 
+-- EFER.LMA: IA-32e mode active
 abbrev pub lma : Regs → Bool
 lma regs = bit regs.efer 10
 
+-- EFER.NXE: execute-disable
 abbrev pub nxe : Regs → Bool
 nxe regs = bit regs.efer 11
 

@@ -1,6 +1,6 @@
 -- The walk of one linear address through the paging structures, from the top table down.
 -- SDM 3A, "Linear-Address Translation with 4-Level Paging and 5-Level Paging".
-use Rattle.std.specs.Prelude.{ℕ, zero, suc, ◌+◌, ◌*◌, ◌/◌, ◌%◌, Option, Some, None, if◌then◌else◌}
+use Rattle.std.specs.Prelude.{ℕ, zero, suc, ◌+◌, ◌*◌, ◌/◌, ◌%◌, Option, Some, None, option_map, if◌then◌else◌}
 use Rattle.paging_model.specs.Memory.{Memory, entry_at}
 use Rattle.paging_model.specs.LinearAddress.{span, index}
 use Rattle.paging_model.specs.Entries.{entry_of, joined, root_bits}
@@ -18,6 +18,11 @@ own_frame level frame x = frame + x % span level / 4096 * 4096
 -- the physical address of the entry of a level that serves an address, in a table
 abbrev pub entry_address : ℕ → ℕ → ℕ → ℕ
 entry_address level table x = table + 8 * index level x
+
+-- what the entry of a level that serves an address means, in a table; none where a byte of it is unknown
+abbrev pub entry_read : Memory → Settings → ℕ → ℕ → ℕ → Option Entry
+entry_read memory settings level table x =
+    option_map (λ value. entry_of level settings value) (entry_at memory (entry_address level table x))
 
 -- what the walk comes to at an entry of a level, where `below` is the walk from the table that the entry references
 abbrev pub at_entry : (ℕ → Bits → Walk) → ℕ → ℕ → Bits → Entry → Walk

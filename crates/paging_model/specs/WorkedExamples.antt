@@ -4,7 +4,7 @@
 use Rattle.std.specs.Prelude.{◌≡◌, ℕ, ◌+◌, ◌-◌, ◌/◌, ◌%◌, ◌^◌, ◌&&◌, true, false, Some, None, Ok, Err, [], ◌∷◌, nat_le, nat_lt, if◌then◌else◌}
 use Rattle.paging_model.specs.Memory.{Memory, byte_in, number_at}
 use Rattle.paging_model.specs.Registers.{pcid_of, root_of}
-use Rattle.paging_model.specs.RegisterRules.{check_of}
+use Rattle.paging_model.specs.RegisterRules.{check_of, change_of, after_change}
 use Rattle.paging_model.specs.LinearAddress.{is_canonical, index}
 use Rattle.paging_model.specs.Entries.{entry_of, joined}
 use Rattle.paging_model.specs.Walking.{walk}
@@ -16,6 +16,7 @@ use Rattle.paging_model.specs.declared.access.AimRule.TheVariants as aims
 use Rattle.paging_model.specs.declared.registers.Machine.{Machine}
 use Rattle.paging_model.specs.declared.registers.Settings.{Settings}
 use Rattle.paging_model.specs.declared.registers.Regs.{Regs}
+use Rattle.paging_model.specs.declared.registers.RegChange.TheVariants as change
 use Rattle.paging_model.specs.declared.registers.RegRule.TheVariants as rule
 use Rattle.paging_model.specs.declared.entries.Bits.{Bits}
 use Rattle.paging_model.specs.declared.entries.Entry.TheVariants as entry
@@ -69,6 +70,19 @@ pub record OfRegisters (machine : Machine) : Type 0 where
   pub pcid : pcid_of (record small_regs { cr3 = 0x1fff; cr4 = 0x20020 }) ≡ 0xfff
   pub pcid_off : pcid_of (record small_regs { cr3 = 0x1fff }) ≡ 0
   pub root : root_of (record small_regs { cr3 = 0x6000000000001fff }) machine ≡ 0x1000
+
+-- of changes with a physical width of 40
+pub record OfChanges (machine : Machine) : Type 0 where
+  pub paging_off : change_of machine (change.Cr0 0x10001) small_regs ≡ Err rule.PagingOff
+  pub not_long : change_of machine (change.Efer 0x900) small_regs ≡ Err rule.NotLong
+  pub no_pae : change_of machine (change.Cr4 0x1000) small_regs ≡ Err rule.NoPae
+  pub la57_changed : change_of machine (change.Cr4 0x21020) (record small_regs { cr3 = 0x1001 }) ≡ Err rule.La57Changed
+  pub pcid_not_zero : change_of machine (change.Cr4 0x20020) (record small_regs { cr3 = 0x1001 }) ≡ Err rule.PcidNotZero
+  pub pcids_already_on : change_of machine (change.Cr4 0x200a0) (record small_regs { cr3 = 0x1001; cr4 = 0x20020 }) ≡ Ok tt
+  pub keep_bit_without_pcid : change_of machine (change.Cr3 0x8000010000001000) small_regs ≡ Err rule.KeepBitWithoutPcid
+  pub past_the_width : change_of machine (change.Cr3 0x10000001000) small_regs ≡ Err rule.Cr3Reserved
+  pub keep_bit : after_change machine (change.Cr3 0xe000000000002001) (record small_regs { cr4 = 0x20020 }) ≡ record small_regs { cr3 = 0x6000000000002001; cr4 = 0x20020 }
+  pub refused : after_change machine (change.Cr4 0) small_regs ≡ small_regs
 
 -- of settings with a physical width of 40, 1-GByte pages, 4 levels and execute-disable
 pub record OfEntries (settings : Settings) : Type 0 where

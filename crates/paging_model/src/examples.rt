@@ -1,6 +1,7 @@
 //! Worked examples of the definitions, each a theorem that computes.
 
-ghost use Rattle.paging_model.specs.WorkedExamples.{OfMemory, OfAddresses, OfRegisters, OfEntries, OfWalks, OfRights, OfPointers};
+ghost use Rattle.paging_model.specs.WorkedSpaces.{OfTranslations, OfListings, OfUses};
+ghost use Rattle.paging_model.specs.WorkedExamples.{OfMemory, OfAddresses, OfRegisters, OfChanges, OfEntries, OfWalks, OfRights, OfPointers};
 ghost use Rattle.paging_model.specs.declared.registers.Machine.{Machine};
 ghost use Rattle.paging_model.specs.declared.registers.Settings.{Settings};
 ghost use Rattle.std.specs.Prelude.{◌≡◌, true, false};
@@ -18,6 +19,11 @@ pub fn addresses()
 /// Register states that are accepted or refused.
 pub fn registers()
     ensures { (machine : Machine) → machine.m ≡ 40 → OfRegisters machine }
+{}
+
+/// Changes of a register that are made or refused.
+pub fn changes()
+    ensures { (machine : Machine) → machine.m ≡ 40 → OfChanges machine }
 {}
 
 /// Entries of each level.
@@ -42,4 +48,20 @@ pub fn rights()
 #[tactic(auto, unfolding(crate::specs::Pointers::aim_of))]
 pub fn pointers()
     ensures { OfPointers }
+{}
+
+/// Translations: frames with the numbers of the rights.
+#[tactic(auto, unfolding(crate::specs::Entries::entry_of, crate::specs::Entries::is_reserved, crate::specs::Walking::walk, crate::specs::Walking::walk_from, crate::specs::Memory::entry_at, crate::specs::AccessRights::is_granted, crate::specs::Pointers::aim_of))]
+pub fn translations()
+    ensures { OfTranslations }
+{}
+
+/// Lists of areas that are as long as they can be, and such that aren't.
+pub fn listings()
+    ensures { OfListings }
+{}
+
+/// Tables and pages that a space uses.
+pub fn uses()
+    ensures { OfUses }
 {}

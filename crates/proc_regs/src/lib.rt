@@ -2,16 +2,15 @@
 #![tactic(auto)]
 
 pub mod bit_ranges;
-pub mod byte_lists;
 pub mod paging;
 pub mod register_bits;
 pub mod rules;
 
-pub use byte_lists::{Payload, Text};
 pub use paging::{canonical, pcid, root, settings};
 pub use paging_model::access::Access;
+pub use paging_model::byte_lists::{Payload, Text};
 pub use paging_model::registers::{Machine, RegChange, RegRule, Regs, Settings};
-pub use rules::check;
+pub use rules::{change, check};
 
 #[cfg(test)]
 mod tests;

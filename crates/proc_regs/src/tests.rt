@@ -2,7 +2,6 @@
 
 use super::*;
 use crate::bit_ranges::{bit, field, in_place, some_bit};
-use std::test::Fail;
 
 /// 64-bit paging with 4 levels, write protection, execute-disable and a root at 0x1000.
 const STATE: Regs = Regs {
@@ -160,10 +159,54 @@ fn tells_canonical_addresses(rt: HostRuntime) {
 }
 
 #[test]
-fn keeps_bytes(rt: HostRuntime) -> Result<(), Fail> {
-    let payload = Payload::from_vec([1, 2].to_vec(rt.alloc())?);
-    assert_eq!(rt; payload.as_slice(), [1, 2].as_slice());
-    let text = Text::from_vec(b"areas 2\n".to_vec(rt.alloc())?);
-    assert_eq!(rt; text.as_slice(), b"areas 2\n".as_slice());
-    Ok(())
+fn changes_one_register(rt: HostRuntime) {
+    let mut state = STATE;
+    let changes = [
+        RegChange::Cr4(0x2_00a0),
+        RegChange::Cr3(0xe000_0000_0000_2005),
+        RegChange::Cr0(0x8000_0001),
+        RegChange::Efer(0x500),
+        RegChange::Ac(true),
+        RegChange::Pkru(0xc),
+        RegChange::Pkrs(0x4),
+    ];
+    for next in changes {
+        assert_eq!(rt; change(&mut state, &MACHINE, next), Ok(()));
+    }
+    let last = Regs {
+        cr0: 0x8000_0001,
+        cr3: 0x6000_0000_0000_2005,
+        cr4: 0x2_00a0,
+        efer: 0x500,
+        ac: true,
+        pkru: 0xc,
+        pkrs: 0x4,
+    };
+    assert_eq!(rt; state, last);
+}
+
+#[test]
+fn refuses_changes(rt: HostRuntime) {
+    let with_pcid = Regs {
+        cr3: 0x1001,
+        ..STATE
+    };
+    let changes = [
+        (STATE, RegChange::Cr0(0x1_0001), RegRule::PagingOff),
+        (STATE, RegChange::Efer(0x900), RegRule::NotLong),
+        (STATE, RegChange::Cr4(0x1000), RegRule::NoPae),
+        (with_pcid, RegChange::Cr4(0x2_1020), RegRule::La57Changed),
+        (with_pcid, RegChange::Cr4(0x2_0020), RegRule::PcidNotZero),
+        (
+            STATE,
+            RegChange::Cr3(0x8000_0100_0000_1000),
+            RegRule::KeepBitWithoutPcid,
+        ),
+        (STATE, RegChange::Cr3(0x100_0000_1000), RegRule::Cr3Reserved),
+    ];
+    for (before, refused, rule) in changes {
+        let mut state = before;
+        assert_eq!(rt; change(&mut state, &MACHINE, refused), Err(rule));
+        assert_eq!(rt; state, before);
+    }
 }

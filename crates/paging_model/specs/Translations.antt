@@ -1,0 +1,53 @@
+-- What a page is mapped to, and which accesses it grants there.
+-- SDM 3A, "Determination of Access Rights", "Protection Keys", "Linear-Address Masking" and "Linear-Address Space
+-- Separation".
+use Rattle.std.specs.Prelude.{ℕ, ◌&&◌, Bool, Option, Some, None}
+use Rattle.paging_model.specs.Memory.{Memory}
+use Rattle.paging_model.specs.Registers.{settings_of}
+use Rattle.paging_model.specs.Walking.{walk}
+use Rattle.paging_model.specs.AccessRights.{is_granted}
+use Rattle.paging_model.specs.AccessSets.{number_of}
+use Rattle.paging_model.specs.Pointers.{reaches}
+use Rattle.paging_model.specs.declared.access.Access.{Access}
+use Rattle.paging_model.specs.declared.entries.Bits.{Bits}
+use Rattle.paging_model.specs.declared.registers.Machine.{Machine}
+use Rattle.paging_model.specs.declared.registers.Regs.{Regs}
+use Rattle.paging_model.specs.declared.registers.Settings.{Settings}
+use Rattle.paging_model.specs.declared.walks.Walk.{Walk}
+use Rattle.paging_model.specs.declared.walks.Walk.TheVariants.{Mapped}
+
+-- the frame of a page, and what holds of accesses to it: the number of a set of accesses, or the page's protection
+pub record Target (Kind : Type 0) : Type 0 where
+  pub frame : ℕ
+  pub kind : Kind
+
+-- what a page's rights depend on besides the registers: the joined bits and the protection key
+pub record Protection : Type 0 where
+  pub bits : Bits
+  pub key : ℕ
+
+-- an access is permitted where its pointer may spell the address and no rule refuses it
+abbrev pub is_permitted : Regs → ℕ → Protection → Access → Bool
+is_permitted regs x page access = reaches regs x access && is_granted regs access page.bits page.key
+
+-- the number of the set of accesses that a page permits at an address
+abbrev pub rights_of : Regs → ℕ → Protection → ℕ
+rights_of regs x page = number_of (is_permitted regs x page)
+
+-- what a walk maps a page to: none where it doesn't end at a page
+abbrev pub protected_of : Walk → Option (Target Protection)
+protected_of (Mapped page) = Some (record { frame = page.frame; kind = record { bits = page.bits; key = page.key } })
+protected_of _ = None
+
+-- the same with the rights that the registers give, in place of the protection
+abbrev pub granted_of : Regs → ℕ → Option (Target Protection) → Option (Target ℕ)
+granted_of regs x None = None
+granted_of regs x (Some target) = Some (record { frame = target.frame; kind = rights_of regs x target.kind })
+
+-- the frame and the protection that the present tables give a page
+abbrev pub protected : Memory → Settings → ℕ → ℕ → Option (Target Protection)
+protected memory settings root x = protected_of (walk memory settings root x)
+
+-- the present translation of a page: the frame and the rights that the tables and the registers give it
+abbrev pub present : Memory → Machine → Regs → ℕ → ℕ → Option (Target ℕ)
+present memory machine regs root x = granted_of regs x (protected memory (settings_of regs machine) root x)
