@@ -3,7 +3,17 @@ pub mod Log
 pub mod Numbers
 pub mod LogLine
 pub mod History
+pub mod Invalidations
+pub mod CachedTranslations
+pub mod StaleTranslations
 pub mod Asking
+pub mod Refusals
+pub mod Answering
 pub mod Texts
 pub mod Outcome
+pub mod KeptSpaces
+pub mod Horizons
+pub mod Costs
 pub mod WorkedExamples
+pub mod WorkedHistories
+pub mod WorkedTranslations

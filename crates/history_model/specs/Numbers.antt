@@ -1,7 +1,9 @@
--- How a number is spelled: `0x` and 1 to 16 hexadecimal digits, or 1 to 20 decimal digits, below 2 to the 64.
+-- How a number is spelled (our own format; docs/FORMATS.md): `0x` and 1 to 16 hexadecimal digits, or 1 to 20 decimal
+-- digits, below 2 to the 64.
 use Rattle.std.specs.Prelude.{ℕ, ◌+◌, ◌-◌, ◌*◌, ◌^◌, ◌&&◌, List, [], ◌∷◌, length, drop, Option, Some, None, option_and_then, Bool, nat_lt, nat_le, nat_eq, codes, if◌then◌else◌}
 use Rattle.std.specs.List.{starts_with}
 
+-- the number is from low to high
 abbrev pub between : ℕ → ℕ → ℕ → Bool
 between low high n = nat_le low n && nat_le n high
 
@@ -31,6 +33,7 @@ abbrev pub value_of : (ℕ → Option ℕ) → ℕ → ℕ → List ℕ → Opti
 value_of digit radix most word =
     if between 1 most (length word) then option_and_then fitting (value_behind digit radix 0 word) else None
 
+-- the number that a word spells
 unfoldable pub number_of : List ℕ → Option ℕ
 number_of word =
     if starts_with nat_eq word (codes "0x") then value_of hex_digit 16 16 (drop 2 word) else value_of decimal_digit 10 20 word

@@ -1,10 +1,12 @@
--- The numbers by which a run's ends are known.
+-- The numbers by which a run's ends are known. (Our own format; docs/FORMATS.md.)
 use Rattle.std.specs.Prelude.{ℕ}
 use Rattle.history_model.specs.declared.statuses.Status.{Status}
-use Rattle.history_model.specs.declared.statuses.Status.TheVariants.{Answered, Usage, CoreRefused, LogRefused, ReadFailed, WriteFailed, OutOfMemory}
+use Rattle.history_model.specs.declared.statuses.Status.TheVariants.{Answered, Stale, Usage, CoreRefused, LogRefused, ReadFailed, WriteFailed, OutOfMemory}
 
+-- the exit status of an end
 abbrev pub code_of : Status → ℕ
 code_of Answered = 0
+code_of Stale = 1
 code_of Usage = 2
 code_of CoreRefused = 3
 code_of LogRefused = 4

@@ -1,17 +1,27 @@
--- Examples that pin the definitions: their values were worked out by hand.
-use Rattle.std.specs.Prelude.{◌≡◌, [], ◌∷◌, ◌++◌, Some, None, Ok, Err, codes}
+-- Examples that pin the log's lines and the texts: their values were worked out by hand.
+use Rattle.std.specs.Prelude.{◌≡◌, [], ◌∷◌, ◌++◌, Some, None, Ok, Err, true, false, codes}
+use Rattle.paging_model.specs.Registers.{machine_of}
 use Rattle.paging_model.specs.declared.access.Access.TheVariants as access
-use Rattle.history_model.specs.Log.{lines_of, words_of}
+use Rattle.paging_model.specs.declared.access.Rule.TheVariants as rule
+use Rattle.paging_model.specs.declared.registers.RegChange.TheVariants as change
+use Rattle.paging_model.specs.declared.registers.RegRule.TheVariants as register
+use Rattle.history_model.specs.Log.{lines_of, whole_lines, rest_of, words_of}
 use Rattle.history_model.specs.Numbers.{number_of}
 use Rattle.history_model.specs.LogLine.{event_of}
-use Rattle.history_model.specs.Texts.{asked_line, line_refusal}
-use Rattle.history_model.specs.declared.events.Event.TheVariants.{Ask}
-use Rattle.history_model.specs.declared.events.Cause.TheVariants.{NotBuilt}
-use Rattle.history_model.specs.declared.answers.Why.TheVariants.{NotCanonical, Absent}
+use Rattle.history_model.specs.Texts.{answer_lines, asked_line, line_refusal}
+use Rattle.history_model.specs.declared.answers.Answer.TheVariants as answer
+use Rattle.history_model.specs.declared.answers.Why.TheVariants.{NotCanonical, Absent, Denied}
+use Rattle.history_model.specs.declared.events.Event.TheVariants as event
+use Rattle.history_model.specs.declared.faults.Cause.TheVariants.{TooLong, Syntax, Step}
+use Rattle.history_model.specs.declared.faults.StepFault.TheVariants as fault
 
 pub record OfLines : Type 0 where
   pub last_without_end : lines_of (codes "a" ++ 10 ∷ 10 ∷ codes "bc") ≡ codes "a" ∷ [] ∷ codes "bc" ∷ []
   pub last_with_end : lines_of (codes "a" ++ 10 ∷ []) ≡ codes "a" ∷ []
+  pub whole : whole_lines (codes "a" ++ 10 ∷ 10 ∷ codes "bc") ≡ codes "a" ∷ [] ∷ []
+  pub rest : rest_of (codes "a" ++ 10 ∷ 10 ∷ codes "bc") ≡ codes "bc"
+  pub no_rest : rest_of (codes "a" ++ 10 ∷ []) ≡ []
+  pub rest_alone : rest_of (codes "ab") ≡ codes "ab"
   pub two_spaces : words_of (codes "a  b") ≡ codes "a" ∷ [] ∷ codes "b" ∷ []
 
 pub record OfNumbers : Type 0 where
@@ -25,18 +35,47 @@ pub record OfNumbers : Type 0 where
   pub upper_prefix : number_of (codes "0X1") ≡ None
 
 pub record OfEvents : Type 0 where
-  pub ask : event_of (codes "ask 0 sr 0x1234") ≡ Ok (Some (Ask 0 access.Sr 0x1234))
+  pub machine : event_of (codes "machine 46 0") ≡ Ok (Some (event.Machine (machine_of 46 false)))
+  pub width : event_of (codes "machine 31 0") ≡ Err Syntax
+  pub big : event_of (codes "machine 46 2") ≡ Err Syntax
+  pub cpu : event_of (codes "cpu 1 0x80050033 0x1006 0x370ee0 0xd01 0x40246 0x55555554 7") ≡ Ok (Some (event.Cpu 1
+      (record { cr0 = 0x80050033; cr3 = 0x1006; cr4 = 0x370ee0; efer = 0xd01; ac = true; pkru = 0x55555554; pkrs = 7 })))
+  pub key_register : event_of (codes "cpu 1 0 0 0 0 0 0x100000000 0") ≡ Err Syntax
+  pub write : event_of (codes "write 0x4008 07fF") ≡ Ok (Some (event.Write 0x4008 (7 ∷ 255 ∷ [])))
+  pub half_a_byte : event_of (codes "write 0x4008 070") ≡ Err Syntax
+  pub no_byte : event_of (codes "write 0x4008 ") ≡ Err Syntax
+  pub set : event_of (codes "set 0 cr4 0x20") ≡ Ok (Some (event.Set 0 (change.Cr4 0x20)))
+  pub set_ac : event_of (codes "set 0 ac 1") ≡ Ok (Some (event.Set 0 (change.Ac true)))
+  pub set_ac_to_2 : event_of (codes "set 0 ac 2") ≡ Err Syntax
+  pub set_pkrs : event_of (codes "set 0 pkrs 4294967296") ≡ Err Syntax
+  pub invlpg : event_of (codes "invlpg 0 0x1000") ≡ Ok (Some (event.Invlpg 0 0x1000))
+  pub invpcid : event_of (codes "invpcid 0 4 5000 0x1000") ≡ Ok (Some (event.Invpcid 0 4 5000 0x1000))
+  pub ask : event_of (codes "ask 0 sr 0x1234") ≡ Ok (Some (event.Ask 0 access.Sr 0x1234))
+  pub list : event_of (codes "list 3") ≡ Ok (Some (event.List 3))
+  pub point : event_of (codes "point all") ≡ Ok (Some (event.Point true))
   pub comment : event_of (codes "# ask") ≡ Ok None
   pub empty : event_of [] ≡ Ok None
-  pub other_form : event_of (codes "list 0") ≡ Err NotBuilt
-  pub two_spaces : event_of (codes "ask 0  sr 0x0") ≡ Err NotBuilt
-  pub space_at_end : event_of (codes "ask 0 sr 0x0 ") ≡ Err NotBuilt
-  pub zero_spelled_otherwise : event_of (codes "ask 0x0 sr 0x0") ≡ Ok (Some (Ask 0 access.Sr 0))
-  pub greatest_processor : event_of (codes "ask 4294967295 sr 0") ≡ Ok (Some (Ask 4294967295 access.Sr 0))
-  pub processor_too_great : event_of (codes "ask 4294967296 sr 0") ≡ Err NotBuilt
+  pub other_form : event_of (codes "fault 0 0x0") ≡ Err Syntax
+  pub upper_case : event_of (codes "ask 0 SR 0x0") ≡ Err Syntax
+  pub two_spaces : event_of (codes "ask 0  sr 0x0") ≡ Err Syntax
+  pub space_at_end : event_of (codes "ask 0 sr 0x0 ") ≡ Err Syntax
+  pub greatest_processor : event_of (codes "ask 4294967295 sr 0") ≡ Ok (Some (event.Ask 4294967295 access.Sr 0))
+  pub processor_too_great : event_of (codes "ask 4294967296 sr 0") ≡ Err Syntax
 
 pub record OfTexts : Type 0 where
   pub granted : asked_line (Ok 0x6234) ≡ codes "granted 0x6234" ++ 10 ∷ []
   pub denied : asked_line (Err (Absent 1)) ≡ codes "denied absent 1" ++ 10 ∷ []
   pub not_canonical : asked_line (Err NotCanonical) ≡ codes "denied not-canonical" ++ 10 ∷ []
-  pub refused : line_refusal 12 NotBuilt ≡ codes "line 12 refused: not built" ++ 10 ∷ []
+  pub rule : asked_line (Err (Denied rule.Smap)) ≡ codes "denied smap" ++ 10 ∷ []
+  pub areas : answer_lines (answer.Listed (record { first = 0x1000; last = 0x1fff; frame = 0x6000; rights = 109 } ∷ []))
+      ≡ (codes "areas 1" ++ 10 ∷ []) ∷ (codes "0x1000 0x1fff 0x6000 r-xr-xr-" ++ 10 ∷ []) ∷ []
+  pub too_large : answer_lines answer.ListTooLarge ≡ (codes "areas too large" ++ 10 ∷ []) ∷ []
+  pub yes : answer_lines (answer.Verdict []) ≡ (codes "point yes" ++ 10 ∷ []) ∷ []
+  pub no : answer_lines (answer.Verdict (record { cpu = 1; pcid = 2; page = 0x1000; frame = 0x6000; excess = 0 } ∷ []))
+      ≡ (codes "point no 1" ++ 10 ∷ []) ∷ (codes "cpu 1 pcid 2 page 0x1000 frame 0x6000 --------" ++ 10 ∷ []) ∷ []
+  pub nothing : answer_lines answer.Nothing ≡ []
+  pub refused : line_refusal 12 Syntax ≡ codes "line 12 refused: syntax" ++ 10 ∷ []
+  pub too_long : line_refusal 1 TooLong ≡ codes "line 1 refused: too long" ++ 10 ∷ []
+  pub stranger : line_refusal 1 (Step (fault.NoProcessor 3)) ≡ codes "line 1 refused: no processor 3" ++ 10 ∷ []
+  pub illegal : line_refusal 2 (Step (fault.Illegal register.PcidNotZero)) ≡ codes "line 2 refused: illegal pcid-not-zero" ++ 10 ∷ []
+  pub crosses : line_refusal 1 (Step (fault.Crosses 0x2000)) ≡ codes "line 1 refused: crosses 0x2000" ++ 10 ∷ []

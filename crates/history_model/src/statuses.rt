@@ -7,6 +7,8 @@ ghost use Rattle.std.specs.Prelude.{◌≡◌};
 pub enum Status {
     /// The log was read to its end and each line was answered.
     Answered,
+    /// The same, and some point found a stale translation.
+    Stale,
     /// The words have no known form.
     Usage,
     /// The core is refused.
@@ -30,6 +32,7 @@ impl Status {
     {
         match self {
             Status::Answered => 0,
+            Status::Stale => 1,
             Status::Usage => 2,
             Status::CoreRefused => 3,
             Status::LogRefused => 4,

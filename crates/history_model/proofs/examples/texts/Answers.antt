@@ -5,4 +5,19 @@ use Rattle.history_model.proofs.examples.texts.Goals as goal
 
 pub returns : goal.returns
 unfolding digits
-returns c = record { granted = refl; denied = refl; not_canonical = refl; refused = refl }
+returns c = record {
+  granted = refl;
+  denied = refl;
+  not_canonical = refl;
+  rule = refl;
+  areas = refl;
+  too_large = refl;
+  yes = refl;
+  no = refl;
+  nothing = refl;
+  refused = refl;
+  too_long = refl;
+  stranger = refl;
+  illegal = refl;
+  crosses = refl;
+}

@@ -1,0 +1,178 @@
+-- Examples that pin the moments of a log and what its events remove: their values were worked out by hand.
+-- The small core: a PML4 at 0x1000, a PDPT at 0x2000, a PD at 0x3000 and a PT at 0x4000, which maps the page 0x0 to 0x5000
+-- and the page 0x1000, without writes, to 0x6000. Of its memory only those entries are known, and the one at 0x4010.
+use Rattle.std.specs.Prelude.{◌≡◌, ℕ, Bool, true, false, Some, None, Ok, Err, List, [], ◌∷◌}
+use Rattle.paging_model.specs.Memory.{Extent}
+use Rattle.paging_model.specs.Registers.{machine_of}
+use Rattle.paging_model.specs.WorkedExamples.{small_regs}
+use Rattle.paging_model.specs.WorkedSpaces.{small_machine, small_settings}
+use Rattle.paging_model.specs.declared.access.Access.TheVariants as access
+use Rattle.paging_model.specs.declared.access.Rule.TheVariants as rule
+use Rattle.paging_model.specs.declared.registers.RegChange.TheVariants as change
+use Rattle.paging_model.specs.declared.registers.RegRule.TheVariants as register
+use Rattle.paging_model.specs.declared.registers.Regs.{Regs}
+use Rattle.paging_model.specs.declared.spaces.SpaceKey.{SpaceKey}
+use Rattle.history_model.specs.Asking.{asked}
+use Rattle.history_model.specs.History.{Start, History, begun, next, after_event, time, memory, machine, processors, regs, pages, pcid, been, home}
+use Rattle.history_model.specs.Horizons.{horizon, least, changes, frames}
+use Rattle.history_model.specs.Invalidations.{kills, loses_all}
+use Rattle.history_model.specs.KeptSpaces.{listed_first, slots_written}
+use Rattle.history_model.specs.Refusals.{refusal, rule_refusal, LeadsTo}
+use Rattle.history_model.specs.declared.answers.Why.TheVariants as why
+use Rattle.history_model.specs.declared.caches.CacheKey.{CacheKey}
+use Rattle.history_model.specs.declared.events.Event.{Event}
+use Rattle.history_model.specs.declared.events.Event.TheVariants as event
+use Rattle.history_model.specs.declared.faults.StepFault.TheVariants as fault
+
+-- the eight bytes of an entry below 0x10000
+abbrev pub entry_bytes : ℕ → ℕ → List ℕ
+entry_bytes low high = low ∷ high ∷ 0 ∷ 0 ∷ 0 ∷ 0 ∷ 0 ∷ 0 ∷ []
+
+abbrev pub small_extents : List ℕ → List ℕ → List Extent
+small_extents first second =
+    record { start = 0x1000; bytes = entry_bytes 0x07 0x20 } ∷ record { start = 0x2000; bytes = entry_bytes 0x07 0x30 }
+    ∷ record { start = 0x3000; bytes = entry_bytes 0x07 0x40 } ∷ record { start = 0x4000; bytes = first }
+    ∷ record { start = 0x4008; bytes = second } ∷ record { start = 0x4010; bytes = entry_bytes 0 0 } ∷ []
+
+abbrev pub small_start : Start
+small_start = record {
+  extents = small_extents (entry_bytes 0x07 0x50) (entry_bytes 0x05 0x60);
+  stated = true;
+  machine = small_machine;
+  processors = (0, small_regs) ∷ (1, small_regs) ∷ [];
+}
+
+abbrev pub zeros : List ℕ
+zeros = entry_bytes 0 0
+
+-- keys: a translation of the page 0x1000, a PDE below address 0, the translation made global, and under PCID 1
+abbrev pub page_key : ℕ → Bool → CacheKey
+page_key c global = record { pcid = c; level = 1; prefix = 0x1000; leaf = true; global = global }
+
+abbrev pub table_key : CacheKey
+table_key = record { pcid = 0; level = 2; prefix = 0; leaf = false; global = false }
+
+-- what an event of a processor removes, of these keys
+pub record Removes (happened : Event) (before : Regs) (of_page of_table of_global of_other : Bool) : Type 0 where
+  pub page : kills happened 0 before (page_key 0 false) ≡ of_page
+  pub table : kills happened 0 before table_key ≡ of_table
+  pub global : kills happened 0 before (page_key 0 true) ≡ of_global
+  pub other_pcid : kills happened 0 before (page_key 1 false) ≡ of_other
+  pub other_cpu : kills happened 1 before (page_key 0 false) ≡ false
+  pub other_cpu_table : kills happened 1 before table_key ≡ false
+  pub other_cpu_global : kills happened 1 before (page_key 0 true) ≡ false
+  pub other_cpu_other_pcid : kills happened 1 before (page_key 1 false) ≡ false
+
+abbrev pub with_pcids : Regs
+with_pcids = record small_regs { cr4 = 0x20020 }
+
+pub record OfInvalidations : Type 0 where
+  pub invlpg : Removes (event.Invlpg 0 0x1fff) small_regs true true true false
+  pub invlpg_elsewhere : Removes (event.Invlpg 0 0x9000) small_regs false true false false
+  pub invlpg_in_another_table : Removes (event.Invlpg 0 0x40000000) small_regs false true false false
+  pub invlpg_of_no_address : Removes (event.Invlpg 0 0x800000000000) small_regs false false false false
+  pub one_address : Removes (event.Invpcid 0 0 0 0x1000) small_regs true true false false
+  pub one_address_elsewhere : Removes (event.Invpcid 0 0 0 0x40000000) small_regs false false false false
+  pub one_address_of_none : kills (event.Invpcid 0 0 0 0x800000000000) 0 small_regs (record { pcid = 0; level = 5; prefix = 0; leaf = false; global = false }) ≡ false
+  pub one_pcid : Removes (event.Invpcid 0 1 0 0x0) small_regs true true false false
+  pub other_pcid : Removes (event.Invpcid 0 1 1 0x0) with_pcids false false false true
+  pub everything : Removes (event.Invpcid 0 2 0 0x0) small_regs true true true true
+  pub all_but_global : Removes (event.Invpcid 0 3 0 0x0) small_regs true true false true
+  pub cr3 : Removes (event.Set 0 (change.Cr3 0x1000)) small_regs true true false false
+  pub cr3_without_pcids : Removes (event.Set 0 (change.Cr3 0x1001)) small_regs true true false false
+  pub cr3_of_a_pcid : Removes (event.Set 0 (change.Cr3 0x1001)) with_pcids false false false true
+  pub cr3_that_keeps : Removes (event.Set 0 (change.Cr3 0x8000000000001001)) with_pcids false false false false
+  pub pge : Removes (event.Set 0 (change.Cr4 0xa0)) small_regs true true true true
+  pub pge_cleared : Removes (event.Set 0 (change.Cr4 0x20)) (record small_regs { cr4 = 0xa0 }) true true true true
+  pub pcide_set : Removes (event.Set 0 (change.Cr4 0x20020)) small_regs false false false false
+  pub pcide_cleared : Removes (event.Set 0 (change.Cr4 0x20)) with_pcids true true true true
+  pub smep_set : Removes (event.Set 0 (change.Cr4 0x100020)) small_regs true true true false
+  pub smep_cleared : Removes (event.Set 0 (change.Cr4 0x20)) (record small_regs { cr4 = 0x100020 }) false false false false
+  pub cr0 : Removes (event.Set 0 (change.Cr0 0x80000001)) small_regs false false false false
+  pub nxe : Removes (event.Set 0 (change.Efer 0x500)) small_regs false false false false
+  pub keys : Removes (event.Set 0 (change.Pkru 4)) small_regs false false false false
+  pub write : Removes (event.Write 0x4008 zeros) small_regs false false false false
+  pub all_lost : loses_all (event.Invpcid 0 2 0 0x0) 0 small_regs ≡ true
+  pub all_lost_elsewhere : loses_all (event.Invpcid 1 2 0 0x0) 0 small_regs ≡ false
+  pub not_all_lost : loses_all (event.Invpcid 0 3 0 0x0) 0 small_regs ≡ false
+  pub all_lost_by_pge : loses_all (event.Set 0 (change.Cr4 0xa0)) 0 small_regs ≡ true
+  pub not_all_lost_by_smep : loses_all (event.Set 0 (change.Cr4 0x100020)) 0 small_regs ≡ false
+
+-- processor 0 turns PCIDs on, goes to PCID 1, and then to PCID 2 with another root
+abbrev pub three_pcids : History
+three_pcids = next (next (next (begun small_start) (event.Set 0 (change.Cr4 0x20020))) (event.Set 0 (change.Cr3 0x1001))) (event.Set 0 (change.Cr3 0x8000000000008002))
+
+abbrev pub two_writes : History
+two_writes = next (next (begun small_start) (event.Write 0x4000 (1 ∷ 2 ∷ []))) (event.Write 0x4001 (3 ∷ []))
+
+pub record OfMoments : Type 0 where
+  pub written : memory two_writes 0x4000 ≡ Some 1
+  pub written_last : memory two_writes 0x4001 ≡ Some 3
+  pub unwritten : memory two_writes 0x4008 ≡ Some 5
+  pub unknown : memory (next (begun small_start) (event.Write 0x9000 (1 ∷ []))) 0x9000 ≡ None
+  pub touched : pages (next two_writes (event.Write 0x1004 (0 ∷ []))) ≡ 0x1000 ∷ 0x4000 ∷ []
+  pub three_events : time three_pcids ≡ 3
+  pub cr3 : regs three_pcids 0 ≡ Some (record small_regs { cr3 = 0x8002; cr4 = 0x20020 })
+  pub other_cpu : regs three_pcids 1 ≡ Some small_regs
+  pub stranger : regs three_pcids 2 ≡ None
+  pub last_pcid : pcid three_pcids 0 ≡ Some 2
+  pub all_pcids : been three_pcids 0 ≡ 0 ∷ 1 ∷ 2 ∷ []
+  pub first_root : home three_pcids 0 1 ≡ Some 0x1000
+  pub last_root : home three_pcids 0 2 ≡ Some 0x8000
+  pub no_home : home three_pcids 0 3 ≡ None
+  pub by_number : processors (after_event (event.Cpu 0 with_pcids) (begun (record small_start { processors = (1, small_regs) ∷ [] }))) ≡ (0, with_pcids) ∷ (1, small_regs) ∷ []
+  pub stated_machine : machine (after_event (event.Machine (machine_of 46 false)) (begun small_start)) ≡ machine_of 46 false
+  pub after_a_state_line : time (after_event (event.Machine (machine_of 46 false)) (begun small_start)) ≡ 0
+  pub after_an_event : after_event (event.Ask 0 access.Ur 0) (begun small_start) ≡ next (begun small_start) (event.Ask 0 access.Ur 0)
+
+pub record OfHorizons : Type 0 where
+  pub at_first : horizon three_pcids 0 ≡ 0
+  pub by_invpcid : horizon (next three_pcids (event.Invpcid 0 2 0 0)) 0 ≡ 4
+  pub of_another : horizon (next three_pcids (event.Invpcid 0 2 0 0)) 1 ≡ 0
+  pub kept : horizon (next three_pcids (event.Invpcid 0 3 0 0)) 0 ≡ 0
+  pub least_of_two : least (next three_pcids (event.Invpcid 0 2 0 0)) ≡ 0
+  pub least_of_both : least (next (next three_pcids (event.Invpcid 0 2 0 0)) (event.Invpcid 1 2 0 0)) ≡ 4
+  pub without_processors : least (next (begun (record small_start { processors = [] })) (event.Write 0x4000 zeros)) ≡ 1
+  pub two_changes : changes two_writes ≡ 2
+  pub across_places : changes (next (begun small_start) (event.Write 0x4004 zeros)) ≡ 2
+  pub one_page : frames two_writes ≡ 1
+  pub none_since : changes (next (next two_writes (event.Invpcid 0 2 0 0)) (event.Invpcid 1 2 0 0)) ≡ 0
+
+pub record OfRefusals : Type 0 where
+  pub not_built : refusal (begun small_start) (event.Invpcid 0 4 0 0) ≡ Some fault.NotBuilt
+  pub second_machine : refusal (begun small_start) (event.Machine small_machine) ≡ Some fault.LateState
+  pub machine_after_a_processor : refusal (begun (record small_start { stated = false })) (event.Machine small_machine) ≡ Some fault.LateState
+  pub late_processor : refusal three_pcids (event.Cpu 2 small_regs) ≡ Some fault.LateState
+  pub double_processor : refusal (begun small_start) (event.Cpu 1 small_regs) ≡ Some (fault.DoubleProcessor 1)
+  pub processor : refusal (begun small_start) (event.Cpu 2 small_regs) ≡ None
+  pub illegal_processor : refusal (begun small_start) (event.Cpu 2 (record small_regs { cr0 = 0 })) ≡ Some (fault.Illegal register.PagingOff)
+  pub illegal_change : refusal three_pcids (event.Set 0 (change.Cr4 0x1020)) ≡ Some (fault.Illegal register.La57Changed)
+  pub stranger : refusal three_pcids (event.Ask 3 access.Ur 0) ≡ Some (fault.NoProcessor 3)
+  pub known : refusal three_pcids (event.Ask 1 access.Ur 0) ≡ None
+  pub bad_type : rule_refusal (begun small_start) (event.Invpcid 0 4 5000 0) ≡ Some fault.BadType
+  pub bad_pcid : rule_refusal (begun small_start) (event.Invpcid 0 3 4096 0) ≡ Some fault.BadPcid
+  pub pcid_without_pcids : rule_refusal (begun small_start) (event.Invpcid 0 1 1 0) ≡ Some fault.BadPcid
+  pub pcid_of_no_use : rule_refusal (begun small_start) (event.Invpcid 0 2 1 0) ≡ None
+  pub not_canonical : rule_refusal (begun small_start) (event.Invpcid 0 0 0 0x800000000000) ≡ Some fault.NotCanonical
+  pub unknown : rule_refusal (begun small_start) (event.Write 0x4014 zeros) ≡ Some (fault.Unknown 0x4018)
+  pub crosses : rule_refusal (begun (record small_start { extents = record { start = 0x1ffc; bytes = zeros } ∷ [] })) (event.Write 0x1ffc zeros) ≡ Some (fault.Crosses 0x2000)
+  pub write : rule_refusal (begun small_start) (event.Write 0x4008 zeros) ≡ None
+
+-- of a space at a root
+abbrev pub space_at : ℕ → SpaceKey
+space_at root = record { root = root; settings = small_settings }
+
+pub record OfKeptSpaces : Type 0 where
+  pub listed_again : listed_first (space_at 0x1000) (space_at 0x2000 ∷ space_at 0x1000 ∷ []) ≡ space_at 0x1000 ∷ space_at 0x2000 ∷ []
+  pub other_settings : listed_first (space_at 0x1000) (record (space_at 0x1000) { settings = record small_settings { nxe = false } } ∷ [])
+      ≡ space_at 0x1000 ∷ record (space_at 0x1000) { settings = record small_settings { nxe = false } } ∷ []
+  pub places : slots_written 0x4004 8 ≡ 2
+  pub accepted : LeadsTo (begun small_start) three_pcids
+
+pub record OfAsking : Type 0 where
+  pub granted : asked (memory (begun small_start)) small_machine small_regs access.Ur 0x1234 ≡ Ok 0x6234
+  pub rule_of_the_page : asked (memory (begun small_start)) small_machine small_regs access.Uw 0x1234 ≡ Err (why.Denied rule.Write)
+  pub absent : asked (memory (begun small_start)) small_machine small_regs access.Ur 0x2000 ≡ Err (why.Absent 1)
+  pub unknown : asked (memory (begun small_start)) small_machine small_regs access.Ur 0x3000 ≡ Err (why.Unknown 1)
+  pub not_canonical : asked (memory (begun small_start)) small_machine small_regs access.Ur 0x800000000000 ≡ Err why.NotCanonical
+  pub lass : asked (memory (begun small_start)) small_machine (record small_regs { cr4 = 0x8000020 }) access.Sx 0 ≡ Err why.Lass
