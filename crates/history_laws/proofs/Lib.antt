@@ -1,0 +1,10 @@
+pub mod MakingLaws
+pub mod HorizonLaws
+pub mod PrefixLaws
+pub mod LevelLaws
+pub mod WalkLaws
+pub mod QuietLaws
+pub mod PcidLaws
+pub mod EventLaws
+pub mod InvalidationLaws
+pub mod VerdictLaws

@@ -1,0 +1,4 @@
+pub mod Making
+pub mod QuietHistories
+pub mod Levels
+pub mod Executing

@@ -1,0 +1,4 @@
+pub mod ReadEntries
+pub mod ServedAddresses
+pub mod LeafRanges
+pub mod Unions

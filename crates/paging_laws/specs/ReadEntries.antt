@@ -1,0 +1,13 @@
+-- What two memories share where a walk reads equal entries in both.
+use Rattle.std.specs.Prelude.{◌≡◌, ℕ}
+use Rattle.paging_model.specs.Memory.{Memory, entry_at}
+use Rattle.paging_model.specs.TableUses.{Reaches}
+use Rattle.paging_model.specs.Walking.{entry_address}
+use Rattle.paging_model.specs.declared.registers.Settings.{Settings}
+use Rattle.paging_model.specs.declared.entries.Bits.{Bits}
+
+-- each entry that the walk of x reads in the one memory is the same in the other
+abbrev pub ReadAlike : Memory → Memory → Settings → ℕ → ℕ → Type 0
+ReadAlike one other settings root x =
+    (level table : ℕ) (above : Bits) → Reaches one settings root x level table above
+    → entry_at one (entry_address level table x) ≡ entry_at other (entry_address level table x)

@@ -1,0 +1,11 @@
+//! Laws that pin the definitions of paging.
+//!
+//! Each is the contract of a function with an empty body: two ways to say one thing that agree, or something that a
+//! definition has to determine. The lemmas behind them stand in `proofs/`, for the crates above to cite.
+#![tactic(auto)]
+
+pub mod counts;
+pub mod denials;
+pub mod leaves;
+pub mod listings;
+pub mod walks;
