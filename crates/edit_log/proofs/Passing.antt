@@ -1,0 +1,184 @@
+-- Lines that have come to their end, one after another.
+use Rattle.std.proofs.Common.{◌≡◌, ◌≢◌, ℕ, ◌+◌, ◌-◌, ◌<◌, List, [], ◌∷◌, ◌++◌, length, take, drop, get_or, refl, arith, sym, ap, ◌∙◌, append_assoc, append-nil, inl, inr}
+use Rattle.std.proofs.lemmas.Grind.{common_steps}
+use Rattle.std.proofs.lemmas.Bool.Decides.{nat_tests}
+use Rattle.std.proofs.lemmas.List.Elements.{recursion_from_All, All-push}
+use Rattle.std.specs.List.{AllByRecursion}
+use Rattle.std.specs.Prelude.{All, Ok, None, Bool, true, false, ◌⊎◌, if◌then◌else◌}
+use Rattle.history_model.specs.Log.{lines_of, whole_lines, rest_of, has_end}
+use Rattle.history_model.specs.LogLine.{event_of}
+use Rattle.edit_log.specs.Reading.{Cuts}
+use Rattle.edit_log.specs.Scanning.{Heads, Tails, Passed, HasLine, HasNoLine, Skips, FindsEvent}
+
+-- bytes in which no line ends
+pub no_end : (bytes : List ℕ) → AllByRecursion (λ b. b ≢ 10) bytes → has_end bytes ≡ false
+no_end [] none = refl
+no_end (b ∷ bytes) none = grind (arith, nat_tests, no_end bytes none.1, none.0)
+
+pub whole-no_end : (bytes : List ℕ) → has_end bytes ≡ false → whole_lines bytes ≡ []
+whole-no_end [] none = refl
+whole-no_end (b ∷ bytes) none = grind (arith, nat_tests, none)
+
+pub rest-no_end : (bytes : List ℕ) → has_end bytes ≡ false → rest_of bytes ≡ bytes
+rest-no_end [] none = refl
+rest-no_end (b ∷ bytes) none = grind (arith, nat_tests, none)
+
+-- a line with its LF
+end-line : (line more : List ℕ) → has_end (line ++ 10 ∷ more) ≡ true
+end-line [] more = refl
+end-line (b ∷ line) more = grind (arith, nat_tests, end-line line more)
+
+lines-line : (line more : List ℕ) → AllByRecursion (λ b. b ≢ 10) line → lines_of (line ++ 10 ∷ more) ≡ line ∷ lines_of more
+lines-line [] more none = refl
+lines-line (b ∷ line) more none = grind (arith, nat_tests, lines-line line more none.1, none.0)
+
+whole-line : (line more : List ℕ) → AllByRecursion (λ b. b ≢ 10) line → whole_lines (line ++ 10 ∷ more) ≡ line ∷ whole_lines more
+whole-line [] more none = refl
+whole-line (b ∷ line) more none = grind (arith, nat_tests, whole-line line more none.1, end-line line more, none.0)
+
+rest-lf : (more : List ℕ) → rest_of (10 ∷ more) ≡ rest_of more
+rest-lf more = let none : has_end more ≡ false → rest_of more ≡ more = rest-no_end more in grind (arith, nat_tests)
+
+rest-line : (line more : List ℕ) → AllByRecursion (λ b. b ≢ 10) line → rest_of (line ++ 10 ∷ more) ≡ rest_of more
+rest-line [] more none = rest-lf more
+rest-line (b ∷ line) more none = grind (arith, nat_tests, rest-line line more none.1, end-line line more, none.0)
+
+-- a last line without LF
+lines-last : (b : ℕ) (line : List ℕ) → AllByRecursion (λ b. b ≢ 10) (b ∷ line) → lines_of (b ∷ line) ≡ (b ∷ line) ∷ []
+lines-last b [] none = grind (arith, nat_tests, none.0)
+lines-last b (c ∷ line) none = grind (arith, nat_tests, lines-last c line none.1, none.0)
+
+lf_then : (line more : List ℕ) → (line ++ 10 ∷ []) ++ more ≡ line ++ 10 ∷ more
+lf_then line more = append_assoc line (10 ∷ []) more
+
+heads-line : (line : List ℕ) → AllByRecursion (λ b. b ≢ 10) line → Heads (line ++ 10 ∷ []) (line ∷ [])
+heads-line line none = record {
+  all = λ more. ap lines_of (lf_then line more) ∙ lines-line line more none;
+  whole = λ more. ap whole_lines (lf_then line more) ∙ whole-line line more none;
+  rest = λ more. ap rest_of (lf_then line more) ∙ rest-line line more none;
+}
+
+heads-nothing : Heads [] []
+heads-nothing = record { all = λ more. refl; whole = λ more. refl; rest = λ more. refl }
+
+heads-more : (a b : List ℕ) (first behind : List (List ℕ)) → Heads a first → Heads b behind → Heads (a ++ b) (first ++ behind)
+heads-more a b first behind one two = record {
+  all = λ more. ap lines_of (append_assoc a b more) ∙ one.all (b ++ more) ∙ ap (λ x. first ++ x) (two.all more) ∙ sym (append_assoc first behind (lines_of more));
+  whole = λ more. ap whole_lines (append_assoc a b more) ∙ one.whole (b ++ more) ∙ ap (λ x. first ++ x) (two.whole more) ∙ sym (append_assoc first behind (whole_lines more));
+  rest = λ more. ap rest_of (append_assoc a b more) ∙ one.rest (b ++ more) ∙ two.rest more;
+}
+
+pub passed-nothing : (finished : Bool) (bytes : List ℕ) → Passed finished bytes bytes []
+passed-nothing finished bytes = record { front = []; bytes = refl; ends = inl heads-nothing }
+
+passed-ends : (finished : Bool) (b c a d : List ℕ) (first behind : List (List ℕ)) → 0 < length b → b ≡ d ++ c
+    → Heads a first ⊎ Tails finished a b first → Heads d behind ⊎ Tails finished d c behind
+    → Heads (a ++ d) (first ++ behind) ⊎ Tails finished (a ++ d) c (first ++ behind)
+passed-ends finished b c a d first behind some is (inr tails) next = absurd (omega (arith, ap length tails.none))
+passed-ends finished b c a d first behind some is (inl heads) (inl more) = inl (heads-more a d first behind heads more)
+passed-ends finished b c a d first behind some is (inl heads) (inr tails) = inr (record {
+  last = tails.last;
+  none = tails.none;
+  all = heads.all d ∙ ap (λ x. first ++ x) tails.all;
+})
+
+pub passed-more : (finished : Bool) (a b c : List ℕ) (first behind : List (List ℕ)) → 0 < length b
+    → Passed finished a b first → Passed finished b c behind → Passed finished a c (first ++ behind)
+passed-more finished a b c first behind some one two = record {
+  front = one.front ++ two.front;
+  bytes = one.bytes ∙ ap (λ x. one.front ++ x) two.bytes ∙ sym (append_assoc one.front two.front c);
+  ends = passed-ends finished b c one.front two.front first behind some two.bytes one.ends two.ends;
+}
+
+abbrev pub lefts : Bool → List ℕ → List (List ℕ)
+lefts finished bytes = if finished then lines_of bytes else whole_lines bytes
+
+left-ends : (finished : Bool) (front b : List ℕ) (lines : List (List ℕ)) → Heads front lines ⊎ Tails finished front b lines → lefts finished (front ++ b) ≡ lines ++ lefts finished b
+left-ends true front b lines (inl heads) = heads.all b
+left-ends false front b lines (inl heads) = heads.whole b
+left-ends finished front b lines (inr tails) = rw (tails.last, tails.none, append-nil front, append-nil lines) tails.all
+
+-- the lines left, before and after
+pub passed-left : (finished : Bool) (a b : List ℕ) (lines : List (List ℕ)) → Passed finished a b lines → lefts finished a ≡ lines ++ lefts finished b
+passed-left finished a b lines passed = rw passed.bytes (left-ends finished passed.front b lines passed.ends)
+
+rest-ends : (front b : List ℕ) (lines : List (List ℕ)) → Heads front lines ⊎ Tails false front b lines → rest_of (front ++ b) ≡ rest_of b
+rest-ends front b lines (inl heads) = heads.rest b
+rest-ends front b lines (inr tails) = absurd cc
+
+pub passed-rest : (a b : List ℕ) (lines : List (List ℕ)) → Passed false a b lines → rest_of a ≡ rest_of b
+passed-rest a b lines passed = rw passed.bytes (rest-ends passed.front b lines passed.ends)
+
+cut-ends : (finished : Bool) (front b : List ℕ) (lines : List (List ℕ)) → Heads front lines ⊎ Tails finished front b lines → lines_of front ≡ lines
+cut-ends finished front b lines (inl heads) = rw (append-nil front, append-nil lines) at (heads.all [])
+cut-ends finished front b lines (inr tails) = tails.all
+
+whole-ends : (finished : Bool) (front b : List ℕ) (lines : List (List ℕ)) → Heads front lines ⊎ Tails finished front b lines → (whole_lines front ≡ lines) ⊎ ((finished ≡ true) × (b ≡ []))
+whole-ends finished front b lines (inl heads) = inl (rw (append-nil front, append-nil lines) at (heads.whole []))
+whole-ends finished front b lines (inr tails) = inr (tails.last, tails.none)
+
+pub passed-cuts : (finished : Bool) (a b : List ℕ) (lines : List (List ℕ)) → Passed finished a b lines → Cuts finished a b lines
+passed-cuts finished a b lines passed = record {
+  front = passed.front;
+  bytes = passed.bytes;
+  cut = cut-ends finished passed.front b lines passed.ends;
+  ends = whole-ends finished passed.front b lines passed.ends;
+}
+
+-- the first line of bytes, which LF ends
+pub has-line : (finished : Bool) (bytes : List ℕ) (end : ℕ) → end < length bytes → get_or bytes end 0 ≡ 10 → All (λ b. b ≢ 10) (take end bytes)
+    → HasLine finished bytes (end + 1) (take end bytes)
+has-line finished bytes end within is before = record {
+  some = omega arith;
+  within = omega arith;
+  passed = record {
+    front = take end bytes ++ 10 ∷ [];
+    bytes = grind (arith, common_steps);
+    ends = inl (heads-line (take end bytes) (recursion_from_All _ _ before));
+  };
+}
+
+-- the last line, without LF
+pub has-last : (finished : Bool) (bytes : List ℕ) → finished ≡ true → 0 < length bytes → All (λ b. b ≢ 10) bytes
+    → HasLine finished bytes (length bytes) bytes
+has-last finished [] last some none = absurd (omega (arith, some))
+has-last finished (b ∷ bytes) last some none = record {
+  some = some;
+  within = omega arith;
+  passed = record {
+    front = b ∷ bytes;
+    bytes = grind (arith, common_steps);
+    ends = inr (record {
+      last = last;
+      none = grind (arith, common_steps);
+      all = lines-last b bytes (recursion_from_All (λ x. x ≢ 10) (b ∷ bytes) none);
+    });
+  };
+}
+
+pub has-no_line : (finished : Bool) (bytes : List ℕ) → (finished ≡ true → bytes ≡ []) → All (λ b. b ≢ 10) bytes → HasNoLine finished bytes
+has-no_line finished bytes all none = record { no_end = no_end bytes (recursion_from_All _ _ none); all = all }
+
+-- behind a place all that is left
+pub behind : (xs : List ℕ) (n : ℕ) → take (length xs - n) (drop n xs) ≡ drop n xs
+behind xs n = grind (arith, common_steps)
+
+-- one line more
+pub passed-line : (finished : Bool) (bytes : List ℕ) (size count more : ℕ) (line : List ℕ) (first : Skips finished bytes size count) → HasLine finished (drop size bytes) more line
+    → Passed finished bytes (drop (size + more) bytes) (first.skipped ++ line ∷ [])
+passed-line finished bytes size count more line first has =
+    let on : drop (size + more) bytes ≡ drop more (drop size bytes) = grind (arith, common_steps) in
+    rw on (passed-more finished bytes (drop size bytes) (drop more (drop size bytes)) first.skipped (line ∷ []) (omega (arith, has.some, has.within)) first.passed has.passed)
+
+pub skips-more : (finished : Bool) (bytes : List ℕ) (size count more : ℕ) → Skips finished bytes size count → FindsEvent finished (drop size bytes) None more
+    → Skips finished bytes (size + more) (count + 1)
+skips-more finished bytes size count more first next =
+    let there : length (drop size bytes) ≡ length bytes - size = grind (arith, common_steps) in
+    record {
+      within = omega (arith, first.within, next.has.within, there);
+      skipped = first.skipped ++ next.line ∷ [];
+      skips = All-push (λ line. event_of line ≡ Ok None) first.skipped next.line first.skips next.means;
+      passed = passed-line finished bytes size count more next.line first next.has;
+      counts = grind (arith, common_steps, first.counts);
+      few = omega (arith, first.few, next.has.some);
+    }

@@ -1,0 +1,29 @@
+-- Words of certain forms, and the events that they spell.
+use Rattle.std.proofs.Common.{◌≡◌, ℕ, List, [], ◌∷◌, refl}
+use Rattle.std.specs.Prelude.{Bool, true, false, Option, Some, None, IsSome, codes, if◌then◌else◌}
+use Rattle.history_model.specs.LogLine.{event_of_words, is_word, machine_line, cpu_line, write_line, set_line, invlpg_line, invpcid_line, ask_line, list_line, point_line, payload_of}
+use Rattle.history_model.specs.Numbers.{number_of}
+use Rattle.edit_log.specs.Reading.{Writes}
+
+-- a word by itself spells none
+none_either : {A : Type 0} (test : Bool) (other : Option A) → other ≡ None → (if test then None else other) ≡ None
+none_either true other none = refl
+none_either false other none = none
+
+pub lone_word : (word : List ℕ) → event_of_words (word ∷ []) ≡ None
+unfolding event_of_words machine_line cpu_line write_line set_line invlpg_line invpcid_line ask_line list_line point_line
+lone_word word =
+    none_either (is_word word (codes "machine")) _ (none_either (is_word word (codes "cpu")) _
+    (none_either (is_word word (codes "write")) _ (none_either (is_word word (codes "set")) _
+    (none_either (is_word word (codes "invlpg")) _ (none_either (is_word word (codes "invpcid")) _
+    (none_either (is_word word (codes "ask")) _ (none_either (is_word word (codes "list")) _
+    (none_either (is_word word (codes "point")) None refl))))))))
+
+writes-payload : (at word : List ℕ) (a : ℕ) (payload : Option (List ℕ)) → number_of at ≡ Some a → payload_of word ≡ payload → IsSome payload → Writes (write_line (at ∷ word ∷ []))
+unfolding write_line
+writes-payload at word a None is_at is_payload some = absurd cc
+writes-payload at word a (Some bytes) is_at is_payload some = record { at = a; bytes = bytes; is = rw (is_at, is_payload) refl }
+
+-- a write with bytes
+pub writes : (words : List (List ℕ)) (at word : List ℕ) (a : ℕ) → words ≡ at ∷ word ∷ [] → number_of at ≡ Some a → IsSome (payload_of word) → Writes (write_line words)
+writes words at word a is is_at some = rw is (writes-payload at word a (payload_of word) is_at refl some)

@@ -1,0 +1,5 @@
+pub mod Reading
+pub mod Words
+pub mod Radixes
+pub mod Scanning
+pub mod HexPairs

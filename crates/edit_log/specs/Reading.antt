@@ -1,0 +1,122 @@
+-- What a reader of a log's lines stands for, and what it takes of the bytes that it was fed.
+use Rattle.std.specs.Prelude.{◌≡◌, ℕ, ◌+◌, ◌-◌, ◌^◌, ◌<◌, ◌≤◌, min, List, [], ◌∷◌, ◌++◌, ◌⊎◌, length, Bool, true, false, All, Option, None, Some, Result, Ok, Err, if◌then◌else◌}
+use Rattle.history_model.specs.Log.{lines_of, whole_lines, rest_of, has_end}
+use Rattle.history_model.specs.LogLine.{event_of, line_limit}
+use Rattle.history_model.specs.declared.events.Event.{Event}
+use Rattle.history_model.specs.declared.events.Event.TheVariants.{Write}
+use Rattle.history_model.specs.declared.faults.Cause.{Cause}
+use Rattle.history_model.specs.declared.faults.Cause.TheVariants.{TooLong, Syntax}
+use Rattle.edit_log.specs.declared.faults.LineFault.{LineFault}
+use Rattle.edit_log.specs.declared.faults.LineFault.TheVariants.{TooLong as LongLine, Syntax as NoForm, Memory}
+
+-- the bytes fed and not taken, the lines taken, whether no more bytes will come, and why a line was refused, which the
+-- lines taken then count
+pub record Reading : Type 0 where
+  pub rest : List ℕ
+  pub taken : ℕ
+  pub finished : Bool
+  pub refused : Option LineFault
+
+-- the lines left that have come to their end
+abbrev pub left_of : Reading → List (List ℕ)
+left_of reading = if reading.finished then lines_of reading.rest else whole_lines reading.rest
+
+-- a count of lines stands still at 2 to the 64, less 1
+abbrev pub counted : ℕ → ℕ → ℕ
+counted taken more = min (taken + more) (2 ^ 64 - 1)
+
+-- empty lines and comments
+abbrev pub AllSkipped : List (List ℕ) → Type 0
+AllSkipped lines = All (λ line. event_of line ≡ Ok None) lines
+
+-- these lines stood before the rest, each with its LF, but for a last line behind which no more bytes will come
+pub record Cuts (finished : Bool) (old rest : List ℕ) (lines : List (List ℕ)) : Type 0 where
+  pub front : List ℕ
+  pub bytes : old ≡ front ++ rest
+  pub cut : lines_of front ≡ lines
+  pub ends : (whole_lines front ≡ lines) ⊎ ((finished ≡ true) × (rest ≡ []))
+
+-- these lines were taken and counted
+pub record Takes (old new : Reading) (lines : List (List ℕ)) : Type 0 where
+  pub cuts : Cuts old.finished old.rest new.rest lines
+  pub count : new.taken ≡ counted old.taken (length lines)
+  pub finished : new.finished ≡ old.finished
+  pub unrefused : old.refused ≡ None
+  pub going : new.refused ≡ None
+
+-- the next event was taken, with the lines before it
+pub record Gives (old new : Reading) (event : Event) : Type 0 where
+  pub skipped : List (List ℕ)
+  pub line : List ℕ
+  pub skips : AllSkipped skipped
+  pub means : event_of line ≡ Ok (Some event)
+  pub left : left_of old ≡ skipped ++ line ∷ left_of new
+  pub takes : Takes old new (skipped ++ line ∷ [])
+
+-- no line with an event has come to its end
+pub record Passes (old new : Reading) : Type 0 where
+  pub skipped : List (List ℕ)
+  pub skips : AllSkipped skipped
+  pub left : left_of old ≡ skipped
+  pub takes : Takes old new skipped
+  pub none : left_of new ≡ []
+  pub no_end : has_end new.rest ≡ false
+  pub short : length new.rest ≤ line_limit
+  pub all : old.finished ≡ true → new.rest ≡ []
+  pub begun : old.finished ≡ false → new.rest ≡ rest_of old.rest
+
+-- the next line that isn't skipped
+pub record NextLine (old : Reading) (skipped : List (List ℕ)) (line : List ℕ) : Type 0 where
+  pub skips : AllSkipped skipped
+  pub more : List (List ℕ)
+  pub left : left_of old ≡ skipped ++ line ∷ more
+
+-- a line that has come to its end is refused
+pub record IsFaulty (old : Reading) (skipped : List (List ℕ)) (cause : Cause) : Type 0 where
+  pub line : List ℕ
+  pub next : NextLine old skipped line
+  pub means : event_of line ≡ Err cause
+
+-- a line is too long before its end has come
+pub record IsEndless (old : Reading) (skipped : List (List ℕ)) (cause : Cause) : Type 0 where
+  pub unfinished : old.finished ≡ false
+  pub skips : AllSkipped skipped
+  pub left : left_of old ≡ skipped
+  pub long : line_limit < length (rest_of old.rest)
+  pub is : cause ≡ TooLong
+
+-- a line is refused, and counted as the last; the rest begins with it
+pub record Refuses (old new : Reading) (cause : Cause) (fault : LineFault) : Type 0 where
+  pub skipped : List (List ℕ)
+  pub why : IsFaulty old skipped cause ⊎ IsEndless old skipped cause
+  pub cuts : Cuts old.finished old.rest new.rest skipped
+  pub count : new.taken ≡ counted old.taken (length skipped + 1)
+  pub finished : new.finished ≡ old.finished
+  pub refused : new.refused ≡ Some fault
+
+-- the event of a write
+pub record Writes (event : Option Event) : Type 0 where
+  pub at : ℕ
+  pub bytes : List ℕ
+  pub is : event ≡ Some (Write at bytes)
+
+-- the line of a write
+pub record SpellsWrite (line : List ℕ) : Type 0 where
+  pub event : Option Event
+  pub write : Writes event
+  pub spells : event_of line ≡ Ok event
+
+-- memory was wanted for the bytes of a write; nothing was taken
+pub record WantsMemory (old new : Reading) : Type 0 where
+  pub skipped : List (List ℕ)
+  pub line : List ℕ
+  pub next : NextLine old skipped line
+  pub write : SpellsWrite line
+  pub same : new ≡ old
+
+-- what was read of a line by itself
+abbrev pub IsRead : List ℕ → Result (Option Event) LineFault → Type 0
+IsRead line (Ok event) = event_of line ≡ Ok event
+IsRead line (Err LongLine) = event_of line ≡ Err TooLong
+IsRead line (Err NoForm) = event_of line ≡ Err Syntax
+IsRead line (Err Memory) = SpellsWrite line
