@@ -1,4 +1,5 @@
 pub mod Counts
 pub mod Front
 pub mod Unheld
+pub mod Writer
 pub mod Written

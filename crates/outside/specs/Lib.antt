@@ -1,6 +1,7 @@
 pub mod Count
 pub mod Shelf
 pub mod Sink
+pub mod Writer
 pub mod Whole
 pub mod MemShelf
 pub mod MemSink

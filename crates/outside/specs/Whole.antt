@@ -1,4 +1,4 @@
--- What reading a name as a whole gives.
+-- What `read_all` gives of a name.
 use Rattle.std.specs.Prelude.{◌≡◌, ℕ, ◌≤◌, List, length, take, Bool, nat_lt}
 
 -- the first bytes up to the limit, and whether there are more

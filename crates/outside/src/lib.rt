@@ -6,6 +6,7 @@
 #![tactic(auto)]
 
 mod file_shelf;
+mod gathered;
 mod held_name;
 mod mem_shelf;
 mod mem_sink;

@@ -13,9 +13,9 @@ pub trait Sink {
     /// How often puts have failed, up to the last 64-bit count.
     ghost faults: { Self → ℕ };
 
-    /// Writes a piece.
+    /// Puts a piece.
     ///
-    /// At `Ok` all of it is written. At an error a front of it may be, and the failure is counted.
+    /// At `Ok` all of it is put. At an error a front of it may be, and the failure is counted.
     fn put(&mut self, bytes: &[u8]) -> Result<(), Failed>
         ensures pieces { Puts (pieces self.old) (pieces self.new) result bytes.now }
         ensures count { faults self.old ≤ faults self.new }

@@ -1,17 +1,23 @@
 // A sink over standard output, at the trusted edge: it tells no pieces.
-ghost use Rattle.std.specs.Prelude.{◌≡◌, ◌≤◌, ℕ, None, OnErr};
+ghost use Rattle.std.specs.Prelude.{◌≡◌, ◌<◌, ◌≤◌, ℕ, None, IsErr, OnErr, is_ok};
 ghost use Rattle.outside.specs.Count.{Rose, faults_after};
 
+use crate::gathered::Gathered;
 use crate::shelf::Failed;
 use crate::sink::Sink;
+use std::alloc::Global;
 use std::io;
-use std::io::Write;
 use std::marker::Model;
 
-/// Writes to standard output. Contracts see a sink as its count of faults.
+/// Writes to standard output. Pieces that were put wait until they are 65,536 bytes together; [`StreamSink::flush`]
+/// writes the rest.
+///
+/// After a fault nothing more is written, since it would stand behind a gap, and each call fails. Contracts see a sink
+/// as its count of faults.
 #[derive(Drop)]
 pub struct StreamSink {
     rt: HostRuntime,
+    gathered: Gathered,
     faults: u64,
 }
 
@@ -22,11 +28,38 @@ impl Model for StreamSink {
 }
 
 impl StreamSink {
-    /// A sink with no faults yet.
-    pub fn new(rt: HostRuntime) -> StreamSink
+    /// A sink with nothing to write and no faults yet.
+    pub fn new(alloc: Global, rt: HostRuntime) -> StreamSink
         ensures { result ≡ 0 }
     {
-        StreamSink { rt, faults: 0 }
+        StreamSink {
+            rt,
+            gathered: Gathered::new(alloc),
+            faults: 0,
+        }
+    }
+
+    /// Writes what was put and isn't written yet.
+    pub fn flush(&mut self) -> Result<(), Failed>
+        // The count moves at failures alone, and a sink that failed goes on failing.
+        ensures faults { self.new ≡ faults_after self.old result }
+        ensures later { 0 < self.old → IsErr result }
+    {
+        let mut output = io::writer(&self.rt);
+        let is_done = self.faults == 0 && self.gathered.write(&mut output).is_ok();
+        self.answer(is_done)
+    }
+
+    // The answer of a call. A fault is counted.
+    fn answer(&mut self, is_done: bool) -> Result<(), Failed>
+        ensures done { is_ok result ≡ is_done }
+        ensures faults { self.new ≡ faults_after self.old result }
+    {
+        if is_done {
+            return Ok(());
+        }
+        self.faults = self.faults.saturating_add(1);
+        Err(Failed)
     }
 }
 
@@ -35,24 +68,17 @@ impl Sink for StreamSink {
 
     ghost faults = { λ faults. faults };
 
-    // An output that takes nothing of a piece has failed: asking again could go on for ever.
+    // At `Ok` the piece is written or waits.
     fn put(&mut self, bytes: &[u8]) -> Result<(), Failed>
         ensures count { self.old ≤ self.new }
         ensures cause { OnErr result (Rose self.old self.new) }
 
-        // The count moves at failures alone.
+        // The count moves at failures alone, and a sink that failed goes on failing.
         ensures faults { self.new ≡ faults_after self.old result }
+        ensures later { 0 < self.old → IsErr result }
     {
-        let mut left = bytes;
-        while !left.is_empty() {
-            match io::writer(&self.rt).write(left) {
-                Ok(count) if count > 0 => left = &left[count..],
-                _ => {
-                    self.faults = self.faults.saturating_add(1);
-                    return Err(Failed);
-                }
-            }
-        }
-        Ok(())
+        let mut output = io::writer(&self.rt);
+        let is_done = self.faults == 0 && self.gathered.add(bytes, &mut output).is_ok();
+        self.answer(is_done)
     }
 }

@@ -1,4 +1,5 @@
 // What no clause says: that calls succeed, and what the host's files and output do.
+use crate::gathered::Gathered;
 use crate::{Failed, FileShelf, MemShelf, MemSink, ReadFault, Shelf, Sink, StreamSink, read_all};
 use std::alloc::{AllocError, Global};
 use std::fs;
@@ -105,7 +106,26 @@ fn reads_files(rt: HostRuntime) -> Result<(), Fail> {
 }
 
 #[test]
+fn gathers_pieces(rt: HostRuntime) -> Result<(), Fail> {
+    let piece = pattern(rt.alloc(), 40_000)?;
+    let mut written = Vec::new(rt.alloc());
+    let mut gathered = Gathered::new(rt.alloc());
+    for (piece, len) in [
+        (piece.as_slice(), 0),
+        (piece.as_slice(), 80_000),
+        (b"end", 80_000),
+    ] {
+        assert_eq!(rt; gathered.add(piece, &mut written), Ok(()));
+        assert_eq!(rt; written.len(), len);
+    }
+    assert_eq!(rt; gathered.write(&mut written), Ok(()));
+    assert_eq!(rt; written.len(), 80_003);
+    Ok(())
+}
+
+#[test]
 fn puts_nothing(rt: HostRuntime) {
-    let mut sink = StreamSink::new(rt);
+    let mut sink = StreamSink::new(rt.alloc(), rt);
     assert_eq!(rt; sink.put(b""), Ok(()));
+    assert_eq!(rt; sink.flush(), Ok(()));
 }
