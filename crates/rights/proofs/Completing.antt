@@ -1,20 +1,20 @@
 -- A run in which nothing failed writes the one outcome of its core and its log.
-use Rattle.std.proofs.Common.{◌≡◌, ℕ, List, refl, ap, sym, ◌∙◌, subst, length, inl, inr}
+use Rattle.std.proofs.Common.{◌≡◌, ℕ, List, refl, ap, sym, ◌∙◌, subst, length, take, inl, inr}
 use Rattle.std.specs.Prelude.{Bool, true, false, nat_lt, MatchBool, Option, Result, Ok, Err, IsOk, ◌⊎◌}
 use Rattle.outside.specs.Shelf.{Told, holds}
 use Rattle.elf_core.specs.Cores.{core_of}
 use Rattle.elf_core.specs.declared.core_file.Core.{Core}
 use Rattle.elf_core.specs.declared.faults.CoreFault.{CoreFault}
 use Rattle.history_model.specs.History.{History, begun}
-use Rattle.history_model.specs.Log.{lines_of}
-use Rattle.history_model.specs.Outcome.{Outcome, Says}
+use Rattle.history_model.specs.Log.{lines_of, rest_of, whole_lines}
+use Rattle.history_model.specs.Outcome.{Outcome, cut_short, ended, log_limit, Says, SaysFront, SaysLog}
 use Rattle.history_model.specs.Statuses.{code_of}
 use Rattle.history_model.specs.declared.statuses.Status.{Status}
-use Rattle.history_model.specs.declared.statuses.Status.TheVariants.{Answered, Usage, CoreRefused, LogRefused, ReadFailed, WriteFailed, OutOfMemory}
-use Rattle.rights.specs.FixedTexts.{core_too_long_line, log_refusal_line}
-use Rattle.rights.specs.Standing.{start_of}
+use Rattle.history_model.specs.declared.statuses.Status.TheVariants.{Answered, Stale, Usage, CoreRefused, LogRefused, ReadFailed, WriteFailed, OutOfMemory}
+use Rattle.rights.specs.FixedTexts.{core_too_long_line}
+use Rattle.audit_core.specs.Standing.{start_of}
 use Rattle.rights.specs.Ends.{Ends, Adds, one_line, after_put}
-use Rattle.rights.specs.Run.{core_limit, log_limit, IsLogOutcome, IsOutcomeBy, IsOutcome, IsAccepted, MayBe, IsUnread, Answers}
+use Rattle.rights.specs.Run.{core_limit, IsOutcomeBy, IsOutcome, IsAccepted, MayBe, IsUnread, Answers}
 use Rattle.rights.proofs.Saying.{says_once}
 
 abbrev Pieces : Type 0
@@ -22,10 +22,10 @@ Pieces = Option (List (List ℕ))
 
 -- a log has one outcome
 log_once : (start : History) (log : List ℕ) (past : Bool) (one other : Outcome)
-    → MatchBool past (one ≡ one_line log_refusal_line LogRefused) (Says start 0 (lines_of log) one)
-    → MatchBool past (other ≡ one_line log_refusal_line LogRefused) (Says start 0 (lines_of log) other) → one ≡ other
-log_once start log true one other is was = is ∙ sym was
-log_once start log false one other is was = says_once (lines_of log) start 0 one other is was
+    → MatchBool past (SaysFront start (take log_limit log) one) (Says (λ before. ended) start 0 (lines_of log) one)
+    → MatchBool past (SaysFront start (take log_limit log) other) (Says (λ before. ended) start 0 (lines_of log) other) → one ≡ other
+log_once start log true one other is was = says_once (cut_short (rest_of (take log_limit log))) (whole_lines (take log_limit log)) start 0 one other is was
+log_once start log false one other is was = says_once (λ before. ended) (lines_of log) start 0 one other is was
 
 read_once : (read : Result Core CoreFault) (log : List ℕ) (one other : Outcome) → IsOutcomeBy read log one → IsOutcomeBy read log other → one ≡ other
 read_once (Ok core) log one other is was = log_once (begun (start_of core)) log (nat_lt log_limit (length log)) one other is was
@@ -44,7 +44,7 @@ outcome_once core log one other is was = core_once core log (nat_lt core_limit (
 -- where the core is refused the log doesn't matter
 read_same : (core log other : List ℕ) (read : Result Core CoreFault) (outcome : Outcome) → core_of core ≡ read → (IsOk read → log ≡ other)
     → IsOutcomeBy read log outcome → IsOutcomeBy read other outcome
-read_same core log other (Ok taken) outcome is same said = subst (λ (l : List ℕ). IsLogOutcome (begun (start_of taken)) l outcome) (same refl) said
+read_same core log other (Ok taken) outcome is same said = subst (λ (l : List ℕ). SaysLog (begun (start_of taken)) l outcome) (same refl) said
 read_same core log other (Err fault) outcome is same said = said
 
 core_same : (core log other : List ℕ) (past : Bool) (outcome : Outcome) → nat_lt core_limit (length core) ≡ past → (IsAccepted core → log ≡ other)
@@ -69,6 +69,7 @@ ends_whole : (core log other : List ℕ) (before now : Pieces) (status : Status)
     → IsOutcome core other outcome → (status ≡ ReadFailed → ⊥) → (status ≡ WriteFailed → ⊥) → Ends (IsOutcome core log) before now status
     → ((code ≡ code_of outcome.status) × Adds before now outcome.lines) ⊎ (code ≡ code_of OutOfMemory)
 ends_whole core log other before now Answered code outcome same code_is is read written ends = inl (finished core log other before now Answered code outcome same code_is is ends)
+ends_whole core log other before now Stale code outcome same code_is is read written ends = inl (finished core log other before now Stale code outcome same code_is is ends)
 ends_whole core log other before now Usage code outcome same code_is is read written ends = inl (finished core log other before now Usage code outcome same code_is is ends)
 ends_whole core log other before now CoreRefused code outcome same code_is is read written ends = inl (finished core log other before now CoreRefused code outcome same code_is is ends)
 ends_whole core log other before now LogRefused code outcome same code_is is read written ends = inl (finished core log other before now LogRefused code outcome same code_is is ends)

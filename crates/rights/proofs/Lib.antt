@@ -1,7 +1,8 @@
-pub mod Digits
+pub mod AnswerTexts
 pub mod Completing
-pub mod Cutting
 pub mod Endings
+pub mod Going
 pub mod Reading
-pub mod Refusals
+pub mod Readings
+pub mod Rests
 pub mod Saying

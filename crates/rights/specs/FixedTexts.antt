@@ -1,5 +1,6 @@
 -- The lines that are the same in each run, with their LF.
 use Rattle.std.specs.Prelude.{ℕ, List, ◌++◌, codes}
+use Rattle.std.specs.Fmt.{decimal}
 use Rattle.history_model.specs.Texts.{line_end}
 
 abbrev pub usage_line : List ℕ
@@ -8,5 +9,6 @@ usage_line = codes "usage: run CORE LOG | check CORE | gen SEED COUNT" ++ line_e
 abbrev pub core_too_long_line : List ℕ
 core_too_long_line = codes "core refused: too long" ++ line_end
 
-abbrev pub log_refusal_line : List ℕ
-log_refusal_line = codes "log refused: not built" ++ line_end
+-- the refusal of a line of the log, by its number and by the text of its cause
+abbrev pub refused_line : ℕ → List ℕ → List ℕ
+refused_line number why = codes "line " ++ (decimal number ++ (codes " refused: " ++ (why ++ line_end)))

@@ -1,10 +1,8 @@
+pub mod AnswerTexts
 pub mod CoreTexts
 pub mod Ends
 pub mod FixedTexts
 pub mod Forms
 pub mod Partway
-pub mod Radixes
-pub mod Replies
+pub mod Putting
 pub mod Run
-pub mod Standing
-pub mod Words

@@ -7,22 +7,18 @@ use Rattle.elf_core.specs.Cores.{core_of}
 use Rattle.elf_core.specs.declared.core_file.Core.{Core}
 use Rattle.elf_core.specs.declared.faults.CoreFault.{CoreFault}
 use Rattle.history_model.specs.History.{History, begun}
-use Rattle.history_model.specs.Log.{lines_of}
-use Rattle.history_model.specs.Outcome.{Outcome, Says}
+use Rattle.history_model.specs.Outcome.{Outcome, SaysLog}
 use Rattle.history_model.specs.Statuses.{code_of}
 use Rattle.history_model.specs.declared.statuses.Status.{Status}
-use Rattle.history_model.specs.declared.statuses.Status.TheVariants.{CoreRefused, LogRefused, ReadFailed, OutOfMemory}
+use Rattle.history_model.specs.declared.statuses.Status.TheVariants.{CoreRefused, ReadFailed, OutOfMemory}
 use Rattle.rights.specs.CoreTexts.{core_refusal}
-use Rattle.rights.specs.FixedTexts.{core_too_long_line, log_refusal_line}
-use Rattle.rights.specs.Standing.{start_of}
+use Rattle.rights.specs.FixedTexts.{core_too_long_line}
+use Rattle.audit_core.specs.Standing.{start_of}
 use Rattle.rights.specs.Ends.{Ends, one_line}
 
--- the greatest lengths of a core and of a log, in bytes
+-- the greatest length of a core, in bytes
 abbrev pub core_limit : ℕ
 core_limit = 2147483648
-
-abbrev pub log_limit : ℕ
-log_limit = 268435456
 
 -- the forms of the words: `run CORE LOG`
 pub data Form : Type 0 where
@@ -35,13 +31,9 @@ form_of _ = None
 abbrev pub texts : List (Bor (List ℕ)) → List (List ℕ)
 texts words = map (λ word. word.now) words
 
--- what is written for a log, from the moment that its core states
-abbrev pub IsLogOutcome : History → List ℕ → Outcome → Type 0
-IsLogOutcome start log outcome =
-    MatchBool (nat_lt log_limit (length log)) (outcome ≡ one_line log_refusal_line LogRefused) (Says start 0 (lines_of log) outcome)
-
+-- what is written for a core that was read, and for a log
 abbrev pub IsOutcomeBy : Result Core CoreFault → List ℕ → Outcome → Type 0
-IsOutcomeBy (Ok core) log outcome = IsLogOutcome (begun (start_of core)) log outcome
+IsOutcomeBy (Ok core) log outcome = SaysLog (begun (start_of core)) log outcome
 IsOutcomeBy (Err fault) log outcome = outcome ≡ one_line (core_refusal fault) CoreRefused
 
 -- what is written for a core and a log, and how the run ends
@@ -68,7 +60,7 @@ pub record IsUnread (before now : Option (List (List ℕ))) (status : Status) : 
 pub record AnswersLog (start : History) (told : Told) (before now : Option (List (List ℕ))) (status : Status) : Type 0 where
   pub log : List ℕ
   pub log_is : MayBe told log
-  pub ends : Ends (IsLogOutcome start log) before now status
+  pub ends : Ends (SaysLog start log) before now status
 
 -- the outcome of a core and a log was written, whole or its front; where the core is refused the log isn't read
 pub record Answers (core_told log_told : Told) (before now : Option (List (List ℕ))) (status : Status) : Type 0 where

@@ -1,20 +1,18 @@
 //! Answers the lines of a log about a memory core: `run CORE LOG`.
 //!
-//! The program is the top call `run` over the host's files and standard output. Its exit status is that of the call, or
-//! 9 where it can't get its words.
+//! The program is the top call `run` over the host's files and standard output. Its exit status is that of the call, 6
+//! where the rest of the output isn't taken, or 9 where it can't get its words.
 #![tactic(auto)]
 
 ghost use Rattle.std.specs.Prelude.{◌≡◌, ◌<◌};
 
-pub mod lines;
+pub mod answer_texts;
 pub mod logs;
-pub mod numbers;
-pub mod replies;
 pub mod runs;
-pub mod session;
 pub mod texts;
 pub mod words;
 
+use history_model::statuses::Status;
 use outside::{FileShelf, Shelf, Sink, StreamSink};
 use phys_view::{Steps, Uncounted};
 pub use runs::run;
@@ -29,22 +27,27 @@ const NO_WORDS: u8 = 9;
 
 fn main(rt: HostRuntime) -> ExitCode {
     let alloc = rt.alloc();
-    let Ok(owned) = words_of(&rt) else {
+    let Some(owned) = words_of(&rt) else {
         return ExitCode::from(NO_WORDS);
     };
     let Ok(words) = borrowed(alloc, &owned) else {
         return ExitCode::from(NO_WORDS);
     };
     let mut shelf = FileShelf::new(rt);
-    let mut out = StreamSink::new(rt);
-    ExitCode::from(run_uncounted(alloc, &words, &mut shelf, &mut out))
+    let mut out = StreamSink::new(alloc, rt);
+    let code = run_uncounted(alloc, &words, &mut shelf, &mut out);
+    // What was put goes out, however the run ends.
+    match out.flush() {
+        Ok(()) => ExitCode::from(code),
+        Err(_) => ExitCode::from(Status::WriteFailed.code()),
+    }
 }
 
-// The words after the program's name.
-fn words_of(rt: &HostRuntime) -> Result<Vec<String>, AllocError> {
+// The words after the program's name; none where one isn't text, or memory was wanted.
+fn words_of(rt: &HostRuntime) -> Option<Vec<String>> {
     match env::args(rt) {
-        Ok(args) => args.skip(1).collect(rt.alloc()),
-        Err(_) => Err(AllocError),
+        Ok(args) => args.skip(1).collect(rt.alloc()).ok(),
+        Err(_) => None,
     }
 }
 

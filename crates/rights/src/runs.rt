@@ -3,20 +3,22 @@
 ghost use Rattle.std.specs.Prelude.{◌≡◌, ◌≢◌, ◌⊎◌, ◌≤◌, ℕ, List, Some, None};
 ghost use Rattle.outside.specs.Count.{Rose};
 ghost use Rattle.outside.specs.Shelf.{Told, holds};
-ghost use Rattle.history_model.specs.History.{History};
+ghost use Rattle.audit_core.specs.Standing.{StandsFor, start_of};
+ghost use Rattle.elf_core.specs.Cores.{IsConsistent};
+ghost use Rattle.history_model.specs.History.{History, begun};
 ghost use Rattle.history_model.specs.Outcome.{Outcome};
 ghost use Rattle.history_model.specs.Statuses.{code_of};
 ghost use Rattle.rights.specs.CoreTexts.{core_refusal};
 ghost use Rattle.rights.specs.FixedTexts.{usage_line};
-ghost use Rattle.rights.specs.Standing.{StandsFor};
 ghost use Rattle.rights.specs.Ends.{Adds, Ends, one_line};
+ghost use Rattle.rights.specs.Partway.{IsBegun};
 ghost use Rattle.rights.specs.Run.{form_of as form_of_words, run as run_form, texts, IsOutcome, IsUnread, Answers, AnswersLog, EndsWith, FailedToRead};
 
 use crate::logs::{after_put, answer_lines};
-use crate::session::Session;
-use crate::texts::{core_refusal_text, core_too_long, log_not_built, usage};
+use crate::texts::{core_refusal_text, core_too_long, usage};
 use crate::words::{Form, form_of};
-use elf_core::{CoreFault, parse};
+use audit_core::Session;
+use elf_core::{Core, CoreFault, parse};
 use history_model::statuses::Status;
 use outside::{ReadFault, Shelf, Sink, read_all};
 use phys_view::{Ledger, Steps};
@@ -121,10 +123,7 @@ fn answer_files<S: Shelf, K: Sink, L: Ledger>(
         return after_put(out.put(core_too_long()), Status::CoreRefused);
     }
     match parse(alloc, &file.bytes) {
-        Ok(core) => {
-            let session: Session<'_, L> = Session::new(core);
-            answer_log(alloc, &session, log, shelf, out, steps)
-        }
+        Ok(core) => answer_core(alloc, core, log, shelf, out, steps),
         Err(fault) => refuse_core(alloc, fault, out),
     }
 }
@@ -160,16 +159,44 @@ fn answer<S: Shelf, K: Sink, L: Ledger>(
     answer_files(alloc, core, log, shelf, out, steps)
 }
 
-// Reads a log, and answers its lines about a core.
-fn answer_log<S: Shelf, K: Sink, L: Ledger>(
+// Reads a log, and answers its lines about a core that was read.
+fn answer_core<S: Shelf, K: Sink, L: Ledger>(
     alloc: Global,
-    session: &Session<'_, L>,
+    core: Core<'_>,
     log: &str,
     shelf: &mut S,
     out: &mut K,
     steps: &mut Steps<L>,
 ) -> Status
-    ensures ends { (start : History) → StandsFor session.now start
+    requires { IsConsistent core }
+    ensures ends { IsUnread (K.pieces out.old) (K.pieces out.new) result
+        ⊎ AnswersLog (begun (start_of core.entry)) (S.told shelf.old log.now) (K.pieces out.old) (K.pieces out.new) result }
+    ensures read_failed { result ≡ Status.ReadFailed → Rose (S.faults shelf.old log.now) (S.faults shelf.new log.now) }
+    ensures write_failed { result ≡ Status.WriteFailed → Rose (K.faults out.old) (K.faults out.new) }
+    ensures never { (result ≢ Status.Usage) × (result ≢ Status.CoreRefused) }
+    ensures told { (n : List ℕ) → S.told shelf.new n ≡ S.told shelf.old n }
+    ensures reach { (n : List ℕ) → n ≢ log.now → S.reach shelf.new n ≡ S.reach shelf.old n }
+    ensures read_count { (n : List ℕ) → S.faults shelf.old n ≤ S.faults shelf.new n }
+    ensures write_count { K.faults out.old ≤ K.faults out.new }
+{
+    let mut session: Session<'_, L> = match Session::start(alloc, core) {
+        Ok(session) => session,
+        Err(AllocError) => return Status::OutOfMemory,
+    };
+    answer_log(alloc, &mut session, log, shelf, out, steps)
+}
+
+// Reads a log, and answers its lines from the first event on.
+fn answer_log<S: Shelf, K: Sink, L: Ledger>(
+    alloc: Global,
+    session: &mut Session<'_, L>,
+    log: &str,
+    shelf: &mut S,
+    out: &mut K,
+    steps: &mut Steps<L>,
+) -> Status
+    requires { IsBegun session.old }
+    ensures ends { (start : History) → StandsFor session.old start
         → IsUnread (K.pieces out.old) (K.pieces out.new) result
         ⊎ AnswersLog start (S.told shelf.old log.now) (K.pieces out.old) (K.pieces out.new) result }
     ensures read_failed { result ≡ Status.ReadFailed → Rose (S.faults shelf.old log.now) (S.faults shelf.new log.now) }
@@ -184,10 +211,7 @@ fn answer_log<S: Shelf, K: Sink, L: Ledger>(
         Ok(file) => file,
         Err(fault) => return status_of(fault),
     };
-    if file.cut {
-        return after_put(out.put(log_not_built()), Status::LogRefused);
-    }
-    answer_lines(alloc, session, &file.bytes, out, steps)
+    answer_lines(alloc, session, &file.bytes, file.cut, out, steps)
 }
 
 // Writes why a core is refused.

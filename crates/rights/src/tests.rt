@@ -108,25 +108,31 @@ fn outcome(alloc: Global, core: &[u8], log: &[u8]) -> Result<(Vec<u8>, u8), Allo
 #[test]
 fn lines_are_answered_or_refused(rt: HostRuntime) -> Result<(), Fail> {
     let core = example_core(rt.alloc())?;
-    let cases: [(&[u8], &[u8], u8); 8] = [
+    let cases: [(&[u8], &[u8], u8); 10] = [
         (
             b"ask 0 sr 0x1234\nask 0 sr 0x2000\nask 0 sr 0x200000\nask 0 sr 0x800000000000\n",
             b"granted 0x6234\ndenied absent 1\ndenied absent 2\ndenied not-canonical\n",
             0,
         ),
         (b"", b"", 0),
-        (b"# note\n\nask 0 sr 0xfff", b"granted 0x5fff\n", 0),
+        (b"# note\n\nask 0 ur 0xfff", b"granted 0x5fff\n", 0),
         (b"ask 0x0 sr 4660\n", b"granted 0x6234\n", 0),
+        (
+            b"ask 0 ur 0x0\nask 0 ur 0x0\n",
+            b"granted 0x5000\ngranted 0x5000\n",
+            0,
+        ),
+        (b"ask 0 ur 0x800000000000\n", b"denied not-canonical\n", 0),
         (
             b"ask 0 sr 0x0\nlist 0\nask 0 sr 0x0\n",
             b"granted 0x5000\nline 2 refused: not built\n",
             4,
         ),
-        (b"ask 0  sr 0x0\n", b"line 1 refused: not built\n", 4),
-        (b"ask 1 sr 0x0\n", b"line 1 refused: not built\n", 4),
+        (b"ask 0  ur 0x0\n", b"line 1 refused: syntax\n", 4),
+        (b"ask 3 ur 0x0\n", b"line 1 refused: no processor 3\n", 4),
         (
             b"\n#\nask 0 sr 0x10000000000000000\n",
-            b"line 3 refused: not built\n",
+            b"line 3 refused: syntax\n",
             4,
         ),
     ];
@@ -149,7 +155,7 @@ fn a_line_of_more_than_8300_bytes_is_refused(rt: HostRuntime) -> Result<(), Fail
     let (written, code) = outcome(rt.alloc(), &core, &log)?;
     assert_eq!(rt;
         written.as_slice(),
-        b"line 1 refused: not built\n".as_slice()
+        b"line 1 refused: too long\n".as_slice()
     );
     assert_eq!(rt; code, 4);
     Ok(())
@@ -157,6 +163,14 @@ fn a_line_of_more_than_8300_bytes_is_refused(rt: HostRuntime) -> Result<(), Fail
 
 /// A number that stands at a place of the example core.
 type Change = (usize, u64);
+
+fn changed_core(alloc: Global, changes: &[Change]) -> Result<Vec<u8>, AllocError> {
+    let mut core = example_core(alloc)?;
+    for (place, number) in changes {
+        put(&mut core, *place, &number.to_le_bytes());
+    }
+    Ok(core)
+}
 
 #[test]
 fn the_walk_reads_the_tables_of_the_core(rt: HostRuntime) -> Result<(), Fail> {
@@ -222,24 +236,57 @@ fn the_walk_reads_the_tables_of_the_core(rt: HostRuntime) -> Result<(), Fail> {
             b"denied absent 4\ngranted 0x6234\n",
             0,
         ),
+        (&[(CR4, 0x0020_0020)], ask, b"denied smap\n", 0),
+        (&[(CR3, 0x4000_0000_0000_1000)], ask, b"granted 0x6234\n", 0),
+    ];
+    for (changes, log, text, status) in cases {
+        let core = changed_core(rt.alloc(), changes)?;
+        let (written, code) = outcome(rt.alloc(), &core, log)?;
+        assert_eq!(rt; written.as_slice(), text);
+        assert_eq!(rt; code, status);
+    }
+    Ok(())
+}
+
+#[test]
+fn registers_change_what_is_granted(rt: HostRuntime) -> Result<(), Fail> {
+    let five_levels: &[Change] = &[(CR3, 0x7000), (CR4, 0x1020), (MEMORY + 0x7000, 0x1007)];
+    let cases: [(&[Change], &[u8], &[u8], u8); 5] = [
+        // Masking of user pointers, from bit 48 and from bit 57 on; fetches aren't masked.
         (
-            &[(CR4, 0x0020_0020)],
-            ask,
-            b"line 1 refused: not built\n",
+            &[],
+            b"set 0 cr3 0x4000000000001000\nask 0 ur 0x7fff000000000000\nask 0 ux 0x7fff000000000000\nset 0 cr3 0x2000000000001000\nask 0 ur 0x4000000000000\n",
+            b"granted 0x5000\ndenied not-canonical\ndenied not-canonical\n",
+            0,
+        ),
+        // LASS keeps each half from the accesses of the other.
+        (
+            &[],
+            b"set 0 cr4 0x8000020\nask 0 sx 0x0\nask 0 ux 0x0\nask 0 ur 0xffff800000000000\n",
+            b"denied lass\ngranted 0x5000\ndenied lass\n",
+            0,
+        ),
+        (
+            five_levels,
+            b"ask 0 ur 0x800000000000\nset 0 cr3 0x4000000000007000\nask 0 ur 0x800000000000\nask 0 ux 0x800000000000\n",
+            b"denied absent 4\ndenied not-canonical\ndenied absent 4\n",
+            0,
+        ),
+        (
+            &[],
+            b"set 0 cr3 0x1008\nset 0 cr4 0x20020\n",
+            b"line 2 refused: illegal pcid-not-zero\n",
             4,
         ),
         (
-            &[(CR3, 0x4000_0000_0000_1000)],
-            ask,
-            b"line 1 refused: not built\n",
+            &[],
+            b"ask 0 ur 0x0\ncpu 1 0x80010001 0x1000 0x20 0xd00 0x2 0x0 0x0\n",
+            b"granted 0x5000\nline 2 refused: late state\n",
             4,
         ),
     ];
     for (changes, log, text, status) in cases {
-        let mut core = example_core(rt.alloc())?;
-        for (place, number) in changes {
-            put(&mut core, *place, &number.to_le_bytes());
-        }
+        let core = changed_core(rt.alloc(), changes)?;
         let (written, code) = outcome(rt.alloc(), &core, log)?;
         assert_eq!(rt; written.as_slice(), text);
         assert_eq!(rt; code, status);
@@ -257,7 +304,7 @@ fn a_core_is_refused_at_its_first_fault(rt: HostRuntime) -> Result<(), Fail> {
         (65_831, b"core refused: segment range 1\n"),
     ];
     for (len, text) in cases {
-        let (written, code) = outcome(rt.alloc(), core.get(..len).unwrap_or(&[]), b"list 0\n")?;
+        let (written, code) = outcome(rt.alloc(), core.get(..len).unwrap_or(&[]), b"")?;
         assert_eq!(rt; written.as_slice(), text);
         assert_eq!(rt; code, 3);
     }
@@ -273,11 +320,16 @@ fn a_core_is_refused_at_its_first_fault(rt: HostRuntime) -> Result<(), Fail> {
 }
 
 #[test]
-fn a_core_without_state_notes_has_no_processor(rt: HostRuntime) -> Result<(), Fail> {
+fn state_lines_state_what_no_note_does(rt: HostRuntime) -> Result<(), Fail> {
     let core = foreign_core(rt.alloc())?;
-    let cases: [(&[u8], &[u8], u8); 2] = [
+    let cases: [(&[u8], &[u8], u8); 3] = [
         (b"", b"", 0),
-        (b"ask 0 sr 0x0\n", b"line 1 refused: not built\n", 4),
+        (
+            b"machine 46 1\ncpu 0 0x80050033 0x1006 0x370ee0 0xd01 0x246 0x55555554 0x0\nask 0 ur 0x0\nask 0 sr 0x0\n",
+            b"granted 0x5000\ndenied smap\n",
+            0,
+        ),
+        (b"ask 0 sr 0x0\n", b"line 1 refused: no processor 0\n", 4),
     ];
     for (log, text, status) in cases {
         let (written, code) = outcome(rt.alloc(), &core, log)?;

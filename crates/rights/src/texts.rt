@@ -1,38 +1,80 @@
-//! The lines that are written, each with its LF.
+//! The usage line and the refusals, each with its LF.
 
-ghost use Rattle.std.specs.Prelude.{◌≡◌, ◌≢◌, IfOk, OnOk};
-ghost use Rattle.history_model.specs.Texts.{asked_line, line_refusal, register_rule_text};
+ghost use Rattle.std.specs.Prelude.{◌≡◌, ◌≢◌, ◌++◌, IfOk, OnOk, codes};
+ghost use Rattle.std.specs.Fmt.{decimal};
+ghost use Rattle.history_model.specs.Texts.{fault_text, hexadecimal, line_refusal, log_too_long as log_too_long_line, register_rule_text};
 ghost use Rattle.rights.specs.CoreTexts.{core_refusal, core_refusal_line, header_refusal_line, note_refusal_line, note_rule_text};
-ghost use Rattle.rights.specs.FixedTexts.{usage_line, core_too_long_line, log_refusal_line};
+ghost use Rattle.rights.specs.FixedTexts.{usage_line, core_too_long_line, refused_line};
 
 use elf_core::{CoreFault, NoteRule};
-use history_model::answers::Why;
-use history_model::events::Cause;
+use history_model::faults::{Cause, StepFault};
 use proc_regs::{RegRule, Text};
 use std::alloc::{AllocError, Global};
 
-/// The answer to an `ask`: the physical address, or why the access is denied.
-pub fn asked_text(alloc: Global, asked: Result<u64, Why>) -> Result<Text, AllocError>
-    ensures { IfOk result (λ text. text ≡ asked_line asked) }
+/// The refusal of a line of the log, by its number from 1. Only want of memory is no refusal, and has no text.
+pub fn refusal_text(alloc: Global, number: u64, cause: Cause) -> Result<Text, AllocError>
+    ensures value { IfOk result (λ text. text ≡ line_refusal number cause) }
+    ensures refusal { OnOk result (cause ≢ Cause.Step StepFault.Memory) }
 {
-    let line = match asked {
-        Ok(address) => format!(in alloc; "granted 0x{address:x}\n")?,
-        Err(Why::NotCanonical) => format!(in alloc; "denied not-canonical\n")?,
-        Err(Why::Unknown(level)) => format!(in alloc; "denied unknown {level}\n")?,
-        Err(Why::Absent(level)) => format!(in alloc; "denied absent {level}\n")?,
-        Err(Why::Reserved(level)) => format!(in alloc; "denied reserved {level}\n")?,
-    };
+    match cause {
+        Cause::TooLong => line_refused(alloc, number, "too long"),
+        Cause::Syntax => line_refused(alloc, number, "syntax"),
+        Cause::Step(fault) => event_refused(alloc, number, fault),
+    }
+}
+
+// The refusal of a line whose event is refused.
+fn event_refused(alloc: Global, number: u64, fault: StepFault) -> Result<Text, AllocError>
+    ensures value { IfOk result (λ text. text ≡ refused_line number (fault_text fault)) }
+    ensures refusal { OnOk result (fault ≢ StepFault.Memory) }
+{
+    match fault {
+        StepFault::NotBuilt => line_refused(alloc, number, "not built"),
+        StepFault::LateState => line_refused(alloc, number, "late state"),
+        StepFault::DoubleProcessor(cpu) => {
+            line_refused_of(alloc, number, "double processor ", cpu)
+        }
+        StepFault::TooManyProcessors => line_refused(alloc, number, "too many processors"),
+        StepFault::NoProcessor(cpu) => line_refused_of(alloc, number, "no processor ", cpu),
+        StepFault::BadType => line_refused(alloc, number, "bad type"),
+        StepFault::BadPcid => line_refused(alloc, number, "bad pcid"),
+        StepFault::NotCanonical => line_refused(alloc, number, "not canonical"),
+        StepFault::Illegal(rule) => line_refused_by(alloc, number, register_rule(rule)),
+        StepFault::Unknown(address) => line_refused_at(alloc, number, "unknown ", address),
+        StepFault::Crosses(address) => line_refused_at(alloc, number, "crosses ", address),
+        StepFault::OverlayFull => line_refused(alloc, number, "overlay full"),
+        StepFault::Memory => Err(AllocError),
+    }
+}
+
+fn line_refused(alloc: Global, number: u64, why: &str) -> Result<Text, AllocError>
+    ensures { IfOk result (λ text. text ≡ refused_line number why.now) }
+{
+    let line = format!(in alloc; "line {number} refused: {why}\n")?;
     Ok(Text::from_vec(line.into_bytes()))
 }
 
-/// The refusal of a line of the log, by its number from 1.
-pub fn refusal_text(alloc: Global, number: u64, cause: Cause) -> Result<Text, AllocError>
-    ensures { IfOk result (λ text. text ≡ line_refusal number cause) }
+// With the number of a processor.
+fn line_refused_of(alloc: Global, number: u64, why: &str, cpu: u32) -> Result<Text, AllocError>
+    ensures { IfOk result (λ text. text ≡ refused_line number (why.now ++ decimal cpu)) }
 {
-    let cause = match cause {
-        Cause::NotBuilt => "not built",
-    };
-    let line = format!(in alloc; "line {number} refused: {cause}\n")?;
+    let line = format!(in alloc; "line {number} refused: {why}{cpu}\n")?;
+    Ok(Text::from_vec(line.into_bytes()))
+}
+
+// With a physical address.
+fn line_refused_at(alloc: Global, number: u64, why: &str, address: u64) -> Result<Text, AllocError>
+    ensures { IfOk result (λ text. text ≡ refused_line number (why.now ++ hexadecimal address)) }
+{
+    let line = format!(in alloc; "line {number} refused: {why}0x{address:x}\n")?;
+    Ok(Text::from_vec(line.into_bytes()))
+}
+
+// With the rule that registers break.
+fn line_refused_by(alloc: Global, number: u64, rule: &str) -> Result<Text, AllocError>
+    ensures { IfOk result (λ text. text ≡ refused_line number (codes "illegal " ++ rule.now)) }
+{
+    let line = format!(in alloc; "line {number} refused: illegal {rule}\n")?;
     Ok(Text::from_vec(line.into_bytes()))
 }
 
@@ -126,8 +168,8 @@ fn register_rule(rule: RegRule) -> &'static str
 }
 
 /// A log over its limit is refused.
-pub fn log_not_built() -> &'static [u8]
-    ensures { result.now ≡ log_refusal_line }
+pub fn log_too_long() -> &'static [u8]
+    ensures { result.now ≡ log_too_long_line }
 {
-    b"log refused: not built\n"
+    b"log refused: too long\n"
 }

@@ -1,17 +1,19 @@
 use Rattle.std.proofs.Common.{◌+◌, ◌≤◌, length}
+use Rattle.audit_core.specs.Standing.{StandsFor}
+use Rattle.edit_log.specs.Reading.{left_of}
 use Rattle.history_model.specs.History.{History}
-use Rattle.history_model.specs.Log.{lines_of}
-use Rattle.rights.specs.Standing.{StandsFor}
-use Rattle.rights.specs.Partway.{Partway}
+use Rattle.rights.specs.Partway.{last_of, Partway, SaysRead}
+use Rattle.rights.proofs.Readings.{IsGoing}
 use Rattle.rights.proofs.logs.answer_lines.Given as goal
 
-abbrev pub invariant-loop-line : goal.invariant-loop-line
-invariant-loop-line g l = record {
-  part : (start : History) → StandsFor l.session start
-      → Partway start (lines_of l.log) l.session (g.K.Sink.pieces l.fn.out) (g.K.Sink.pieces l.out) l.number (lines_of l.rest);
-  few : l.number + length l.rest ≤ length l.log;
+abbrev pub invariant-events : goal.invariant-events
+invariant-events g l = record {
+  part : (start : History) → StandsFor l.fn.session start
+      → Partway (SaysRead l.cut start l.log) (last_of l.cut l.log) l.session (g.K.Sink.pieces l.fn.out) (g.K.Sink.pieces l.out) l.lines.taken (left_of l.lines) l.stale;
+  going : IsGoing l.cut l.log l.lines;
+  time : l.session.happened + length l.lines.rest ≤ length l.log;
   count : g.K.Sink.faults l.fn.out ≤ g.K.Sink.faults l.out;
 }
 
-abbrev pub decreases-loop-line : goal.decreases-loop-line
-decreases-loop-line g l = length l.rest
+abbrev pub decreases-events : goal.decreases-events
+decreases-events g l = length l.lines.rest

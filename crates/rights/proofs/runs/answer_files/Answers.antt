@@ -2,10 +2,8 @@ use Rattle.std.proofs.Common.{◌≡◌, inl, inr, refl, []}
 use Rattle.outside.proofs.Counts.{Rose-earlier}
 use Rattle.std.specs.Prelude.{Ok}
 use Rattle.elf_core.specs.Cores.{core_of}
-use Rattle.history_model.specs.History.{begun}
 use Rattle.history_model.specs.declared.statuses.Status.TheVariants.{CoreRefused}
 use Rattle.rights.specs.FixedTexts.{core_too_long_line}
-use Rattle.rights.specs.Standing.{start_of}
 use Rattle.rights.specs.Run.{core_limit}
 use Rattle.rights.proofs.Endings.{one_line-ends}
 use Rattle.rights.proofs.Reading.{read_past, read_within, core_past, core_refused, core_read, past_accepted, refused_accepted, refused_as, accepted}
@@ -47,7 +45,7 @@ returns-in-Ok-parse-clause-ends g c =
     c.in-Ok.ensures.whole c.in-Ok.ensures.missing c.in-Ok.ensures.bound c.if-file.false in
     let is : core_of c.in-Ok.file.bytes.items ≡ Ok c.in-Ok-parse.core =
     rw c.deref.ensures.value at c.in-Ok-parse.ensures.ok in
-    elim (rw (c.in-Ok.ensures.told c.args.log.now) at (c.answer_log.ensures.ends (begun (start_of c.in-Ok-parse.core)) c.new-session.ensures)) [
+    elim (rw (c.in-Ok.ensures.told c.args.log.now) at c.answer_core.ensures.ends) [
       | inl unread ↦ inl unread
       | inr answers ↦ inr (record {
         core = c.in-Ok.file.bytes.items;
@@ -65,6 +63,6 @@ returns-in-Ok-parse-clause-read_failed g c = λ failed.
     let is : core_of c.in-Ok.file.bytes.items ≡ Ok c.in-Ok-parse.core =
     rw c.deref.ensures.value at c.in-Ok-parse.ensures.ok in
     inr (
-      Rose-earlier _ _ _ (c.in-Ok.ensures.count c.args.log.now) (c.answer_log.ensures.read_failed failed),
+      Rose-earlier _ _ _ (c.in-Ok.ensures.count c.args.log.now) (c.answer_core.ensures.read_failed failed),
       (c.in-Ok.file.bytes.items, read.may_be, accepted c.in-Ok.file.bytes.items c.in-Ok-parse.core read.within is),
     )
