@@ -1,12 +1,13 @@
 #!/usr/bin/env python3
-"""Times commands side by side: ratios.py NAME COMMAND [NAME COMMAND ..]
+"""Times commands side by side: ratios.py [--to NAME].. [--each COUNT] NAME COMMAND [NAME COMMAND ..]
 
-Each command runs five times, in turn with the others, with what it prints dropped. One line a command tells the median
-of its five times as a ratio to the first command's median.
+Each command runs five times, in turn with the others. What it prints is dropped, where it doesn't say itself where that
+goes. One line a command tells the median of its five times, as a ratio to the median of the first command, or of those
+that --to names, and in seconds. --each tells besides how many nanoseconds that is for each of COUNT things.
 """
+import argparse
 import statistics
 import subprocess
-import sys
 import time
 
 ROUNDS = 5
@@ -18,19 +19,35 @@ def seconds(command):
     return time.perf_counter() - start
 
 
-def main():
-    words = sys.argv[1:]
-    if not words or len(words) % 2 != 0:
-        sys.exit(__doc__)
-    commands = list(zip(words[::2], words[1::2]))
+def arguments():
+    parser = argparse.ArgumentParser(usage=__doc__)
+    parser.add_argument("--to", action="append", default=[])
+    parser.add_argument("--each", type=int)
+    parser.add_argument("words", nargs="+")
+    given = parser.parse_args()
+    if len(given.words) % 2 != 0 or not set(given.to) <= set(given.words[::2]):
+        parser.error("a name without a command")
+    return given
+
+
+def medians(commands):
     times = {name: [] for name, _ in commands}
     for _ in range(ROUNDS):
         for name, command in commands:
             times[name].append(seconds(command))
-    medians = {name: statistics.median(values) for name, values in times.items()}
-    first = medians[commands[0][0]]
-    for name, median in medians.items():
-        print(f"{name:<24} {median / first:6.2f}   ({median:.3f} s)")
+    return {name: statistics.median(values) for name, values in times.items()}
+
+
+def main():
+    given = arguments()
+    middles = medians(list(zip(given.words[::2], given.words[1::2])))
+    bases = given.to or given.words[:1]
+    if len(bases) > 1:
+        print(f"{'':<24}" + "".join(f" {base:>12}" for base in bases))
+    for name, median in middles.items():
+        ratios = "".join(f" {median / middles[base]:{12 if len(bases) > 1 else 6}.2f}" for base in bases)
+        each = f", {median / given.each * 1e9:.0f} ns each" if given.each else ""
+        print(f"{name:<24}{ratios}   ({median:.3f} s{each})")
 
 
 if __name__ == "__main__":

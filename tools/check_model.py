@@ -1,0 +1,100 @@
+#!/usr/bin/env python3
+"""Checks that docs/MODEL.md and the definitions lead to each other.
+
+Each section of docs/MODEL.md names definitions and links their files, and its index leads back. This script sees that
+each name that a section gives stands in a file that the section links, that each link is one, that the index has every
+file of definitions with every public name in it, and that the laws are told that are proved. With --write it writes the
+index anew.
+"""
+
+import re
+import sys
+from pathlib import Path
+
+ROOT = Path(__file__).resolve().parent.parent
+PAGE = ROOT / "docs" / "MODEL.md"
+CRATES = ("paging_model", "history_model")
+HEADING = "## Where each definition stands"
+DEFINED = re.compile(r"^ *(?:(?:abbrev|unfoldable) pub|pub (?:data|record|unfoldable|abbrev)) (\w+)", re.M)
+LINK = re.compile(r"\[\w+\]\(\.\./(crates/\w+/specs/\w+\.antt)\)")
+
+
+def definitions():
+    """The public names of each file of definitions, but for worked cases."""
+    for crate in CRATES:
+        for path in sorted((ROOT / "crates" / crate / "specs").glob("*.antt")):
+            if path.stem != "Lib" and not path.stem.startswith("Worked"):
+                yield path, DEFINED.findall(path.read_text(encoding="utf-8"))
+
+
+def sections(text):
+    """The sections that have definitions: heading and text."""
+    for part in re.split(r"^(?=##+ )", text.split(HEADING)[0], flags=re.M):
+        if part.startswith("### "):
+            heading, _, body = part.removeprefix("### ").partition("\n")
+            yield heading.strip(), body
+
+
+def anchor(heading):
+    return heading.lower().replace(" ", "-")
+
+
+def index(text):
+    """The index: each file with its section and its names."""
+    place = {}
+    for heading, body in sections(text):
+        for link in LINK.findall(body):
+            place.setdefault(link, heading)
+    lines = ["| File | Section | Names |", "|---|---|---|"]
+    for path, names in definitions():
+        link = path.relative_to(ROOT).as_posix()
+        if link not in place:
+            raise SystemExit(f"{link}: no section of docs/MODEL.md links it")
+        heading = place[link]
+        told = ", ".join(f"`{name}`" for name in names)
+        lines.append(f"| [{path.stem}](../{link}) | [{heading}](#{anchor(heading)}) | {told} |")
+    return "\n".join(lines) + "\n"
+
+
+def check_names(text):
+    """Each name that a section gives behind "Definitions" stands in a file that it links there."""
+    known = {path.relative_to(ROOT).as_posix(): names for path, names in definitions()}
+    for heading, body in sections(text):
+        told = body.partition("*Definitions*")[2]
+        if not told:
+            raise SystemExit(f"{heading}: the section names no definitions")
+        names = {name for link in LINK.findall(told) for name in known.get(link, ())}
+        for link in LINK.findall(told):
+            if link not in known:
+                raise SystemExit(f"{heading}: {link} isn't a file of definitions")
+        for name in re.findall(r"`(\w+)`", told):
+            if name not in names:
+                raise SystemExit(f"{heading}: {name} isn't defined in a file that the section links")
+
+
+def check_laws(text):
+    """The functions of the two crates of laws are those of the page's tables of laws."""
+    proved = set()
+    for crate in ("paging_laws", "history_laws"):
+        for path in (ROOT / "crates" / crate / "src").glob("*.rt"):
+            proved |= set(re.findall(r"^pub fn (\w+)", path.read_text(encoding="utf-8"), re.M))
+    part = text.split("\n## Laws\n")[1].split("\n## ")[0]
+    told = {name for row in re.findall(r"^\|.*\|(.*)\|$", part, re.M) for name in re.findall(r"`(\w+)`", row)}
+    for name in sorted(told ^ proved):
+        raise SystemExit(f"{name}: " + ("it is told as a law and isn't one" if name in told else "the page doesn't tell this law"))
+
+
+def main():
+    text = PAGE.read_text(encoding="utf-8")
+    check_names(text)
+    check_laws(text)
+    before, heading, rest = text.partition(HEADING)
+    wanted = f"{before}{HEADING}\n\n{index(text)}"
+    if sys.argv[1:] == ["--write"]:
+        PAGE.write_text(wanted, encoding="utf-8")
+    elif text != wanted:
+        raise SystemExit("docs/MODEL.md: the index isn't that of the definitions: tools/check_model.py --write makes it")
+
+
+if __name__ == "__main__":
+    main()
