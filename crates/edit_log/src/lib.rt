@@ -16,6 +16,7 @@ mod values;
 mod words;
 
 pub use faults::LineFault;
+pub use history_model::events::Event;
 pub use lines::Lines;
 pub use names::kind;
 pub use numbers::number;

@@ -1,4 +1,4 @@
-//! The names that the log uses.
+//! The names of the kinds of access.
 
 ghost use Rattle.std.specs.Prelude.{◌≡◌};
 ghost use Rattle.history_model.specs.LogLine.{kind_of};

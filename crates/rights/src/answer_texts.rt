@@ -5,6 +5,7 @@ ghost use Rattle.history_model.specs.Texts.{answer_lines, area_line, asked_line,
 ghost use Rattle.history_model.specs.declared.answers.Answer.TheVariants.{Listed};
 ghost use Rattle.rights.specs.AnswerTexts.{character_of, area_count_line, finding_count_line, found_lines, no_finding_line, too_large_line};
 
+use crate::texts::text_of;
 use history_model::answers::{Answer, Why};
 use history_model::caches::Finding;
 use paging_model::access::{Access, Rule};
@@ -55,7 +56,7 @@ fn asked_text(alloc: Global, asked: Result<u64, Why>) -> Result<Text, AllocError
             format!(in alloc; "denied {rule}\n")?
         }
     };
-    Ok(Text::from_vec(line.into_bytes()))
+    Ok(text_of(line))
 }
 
 // The rule of a page that refuses an access.
@@ -87,14 +88,14 @@ fn area_count(alloc: Global, count: usize) -> Result<Text, AllocError>
     ensures { IfOk result (λ text. text ≡ area_count_line count) }
 {
     let line = format!(in alloc; "areas {count}\n")?;
-    Ok(Text::from_vec(line.into_bytes()))
+    Ok(text_of(line))
 }
 
 fn too_large(alloc: Global) -> Result<Text, AllocError>
     ensures { IfOk result (λ text. text ≡ too_large_line) }
 {
     let line = format!(in alloc; "areas too large\n")?;
-    Ok(Text::from_vec(line.into_bytes()))
+    Ok(text_of(line))
 }
 
 fn area_text(alloc: Global, area: &Area) -> Result<Text, AllocError>
@@ -108,7 +109,7 @@ fn area_text(alloc: Global, area: &Area) -> Result<Text, AllocError>
     } = *area;
     let rights = letters(alloc, &area.rights)?;
     let line = format!(in alloc; "0x{first:x} 0x{last:x} 0x{frame:x} {rights}\n")?;
-    Ok(Text::from_vec(line.into_bytes()))
+    Ok(text_of(line))
 }
 
 fn verdict_line_count(findings: &[Finding]) -> u64
@@ -144,14 +145,14 @@ fn no_finding(alloc: Global) -> Result<Text, AllocError>
     ensures { IfOk result (λ text. text ≡ no_finding_line) }
 {
     let line = format!(in alloc; "point yes\n")?;
-    Ok(Text::from_vec(line.into_bytes()))
+    Ok(text_of(line))
 }
 
 fn finding_count(alloc: Global, count: usize) -> Result<Text, AllocError>
     ensures { IfOk result (λ text. text ≡ finding_count_line count) }
 {
     let line = format!(in alloc; "point no {count}\n")?;
-    Ok(Text::from_vec(line.into_bytes()))
+    Ok(text_of(line))
 }
 
 fn finding_text(alloc: Global, finding: &Finding) -> Result<Text, AllocError>
@@ -168,7 +169,7 @@ fn finding_text(alloc: Global, finding: &Finding) -> Result<Text, AllocError>
     let line = format!(in alloc;
         "cpu {cpu} pcid {pcid} page 0x{page:x} frame 0x{frame:x} {excess}\n"
     )?;
-    Ok(Text::from_vec(line.into_bytes()))
+    Ok(text_of(line))
 }
 
 // Eight characters: the letter of each access that is in the set, else `-`.

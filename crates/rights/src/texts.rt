@@ -1,6 +1,6 @@
 //! The usage line and the refusals, each with its LF.
 
-ghost use Rattle.std.specs.Prelude.{◌≡◌, ◌≢◌, ◌++◌, IfOk, OnOk, codes};
+ghost use Rattle.std.specs.Prelude.{◌≡◌, ◌≢◌, ◌++◌, IfOk, OnOk, codes, string_bytes};
 ghost use Rattle.std.specs.Fmt.{decimal};
 ghost use Rattle.history_model.specs.Texts.{fault_text, hexadecimal, line_refusal, log_too_long as log_too_long_line, register_rule_text};
 ghost use Rattle.rights.specs.CoreTexts.{core_refusal, core_refusal_line, header_refusal_line, note_refusal_line, note_rule_text};
@@ -8,7 +8,8 @@ ghost use Rattle.rights.specs.FixedTexts.{usage_line, core_too_long_line, refuse
 
 use elf_core::{CoreFault, NoteRule};
 use history_model::faults::{Cause, StepFault};
-use proc_regs::{RegRule, Text};
+use paging_model::byte_lists::Text;
+use paging_model::registers::RegRule;
 use std::alloc::{AllocError, Global};
 
 /// The refusal of a line of the log, by its number from 1. Only want of memory is no refusal, and has no text.
@@ -51,7 +52,7 @@ fn line_refused(alloc: Global, number: u64, why: &str) -> Result<Text, AllocErro
     ensures { IfOk result (λ text. text ≡ refused_line number why.now) }
 {
     let line = format!(in alloc; "line {number} refused: {why}\n")?;
-    Ok(Text::from_vec(line.into_bytes()))
+    Ok(text_of(line))
 }
 
 // With the number of a processor.
@@ -59,7 +60,7 @@ fn line_refused_of(alloc: Global, number: u64, why: &str, cpu: u32) -> Result<Te
     ensures { IfOk result (λ text. text ≡ refused_line number (why.now ++ decimal cpu)) }
 {
     let line = format!(in alloc; "line {number} refused: {why}{cpu}\n")?;
-    Ok(Text::from_vec(line.into_bytes()))
+    Ok(text_of(line))
 }
 
 // With a physical address.
@@ -67,7 +68,7 @@ fn line_refused_at(alloc: Global, number: u64, why: &str, address: u64) -> Resul
     ensures { IfOk result (λ text. text ≡ refused_line number (why.now ++ hexadecimal address)) }
 {
     let line = format!(in alloc; "line {number} refused: {why}0x{address:x}\n")?;
-    Ok(Text::from_vec(line.into_bytes()))
+    Ok(text_of(line))
 }
 
 // With the rule that registers break.
@@ -75,7 +76,7 @@ fn line_refused_by(alloc: Global, number: u64, rule: &str) -> Result<Text, Alloc
     ensures { IfOk result (λ text. text ≡ refused_line number (codes "illegal " ++ rule.now)) }
 {
     let line = format!(in alloc; "line {number} refused: illegal {rule}\n")?;
-    Ok(Text::from_vec(line.into_bytes()))
+    Ok(text_of(line))
 }
 
 /// How the program is called.
@@ -119,21 +120,21 @@ fn core_refused(alloc: Global, why: &str) -> Result<Text, AllocError>
     ensures { IfOk result (λ text. text ≡ core_refusal_line why.now) }
 {
     let line = format!(in alloc; "core refused: {why}\n")?;
-    Ok(Text::from_vec(line.into_bytes()))
+    Ok(text_of(line))
 }
 
 fn header_refused(alloc: Global, why: &str, number: u16) -> Result<Text, AllocError>
     ensures { IfOk result (λ text. text ≡ header_refusal_line why.now number) }
 {
     let line = format!(in alloc; "core refused: {why} {number}\n")?;
-    Ok(Text::from_vec(line.into_bytes()))
+    Ok(text_of(line))
 }
 
 fn note_refused(alloc: Global, number: u16, rule: &str) -> Result<Text, AllocError>
     ensures { IfOk result (λ text. text ≡ note_refusal_line number rule.now) }
 {
     let line = format!(in alloc; "core refused: note state {number} {rule}\n")?;
-    Ok(Text::from_vec(line.into_bytes()))
+    Ok(text_of(line))
 }
 
 // The rule that a state note breaks.
@@ -172,4 +173,11 @@ pub fn log_too_long() -> &'static [u8]
     ensures { result.now ≡ log_too_long_line }
 {
     b"log refused: too long\n"
+}
+
+/// A line that was formatted.
+pub fn text_of(line: String) -> Text
+    ensures { result ≡ string_bytes line }
+{
+    Text::from_vec(line.into_bytes())
 }
