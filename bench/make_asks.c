@@ -4,6 +4,7 @@
    turn, to addresses in pages that the processor's tables have: lower and upper addresses alike often. One line in eight
    asks for such an address with one bit changed, which may be mapped or not. All is random, and always the same. */
 #include "core_and_log.h"
+#include "random_numbers.h"
 
 /* The longest log that the program takes. */
 static const size_t LOG_LIMIT = 268435456;
@@ -46,15 +47,6 @@ static void gather(struct pages halves[2], const struct memory *memory, const st
         else
             gather(halves, memory, processor, entry & bits(12, 52), level - 1, address);
     }
-}
-
-static uint64_t random_number(void)
-{
-    static uint64_t state = 88172645463325252u;
-    state ^= state << 13;
-    state ^= state >> 7;
-    state ^= state << 17;
-    return state;
 }
 
 static uint64_t random_address(const struct pages halves[2])

@@ -10,6 +10,8 @@
 #include <stdlib.h>
 #include <string.h>
 
+#include "random_numbers.h"
+
 enum { TABLE = 4096, FRAMES = 131072, NOTE_BYTES = 360, NOTES = 2, HEADERS = 3, FIRMWARE_BYTES = 256 * 1024 };
 
 static const uint64_t MEMORY_BYTES = (uint64_t)FRAMES * TABLE;
@@ -24,15 +26,6 @@ static const uint64_t ABOVE_WIDTH = 1ull << 45; /* reserved, as the machine has 
 static const uint64_t MASK_USER = 1ull << 61; /* of CR3 */
 
 static unsigned char *memory;
-
-static uint64_t random_number(void)
-{
-    static uint64_t state = 88172645463325252u;
-    state ^= state << 13;
-    state ^= state >> 7;
-    state ^= state << 17;
-    return state;
-}
 
 static uint64_t random_frame(void)
 {

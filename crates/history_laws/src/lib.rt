@@ -2,8 +2,8 @@
 //! every history.
 //!
 //! Each function is a law: its `ensures` is the statement, and its body is empty. The words are defined in
-//! `history_model` and in this crate's `specs/`; the lemmas behind the laws stand in `proofs/`, and crates above cite
-//! them.
+//! `history_model` and in this crate's `specs/`; the lemmas behind the laws stand in `proofs/`, for later crates to
+//! cite.
 #![tactic(auto)]
 
 ghost use Rattle.std.specs.Prelude.{◌≡◌, ◌↔◌, ℕ, ◌≤◌, ◌/◌, ◌∷◌, Bool, true, false, List, [], Some};
