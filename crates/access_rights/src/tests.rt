@@ -3,42 +3,41 @@
 ghost use Rattle.std.specs.Prelude.{◌<◌};
 
 use super::*;
+use paging_model::access::{Access, Rule};
 use paging_model::entries::Bits;
 use paging_model::registers::Regs;
 use std::process::Abort;
+use test_support::registers::REGS;
 
+/// CR0 without write protection.
 const CR0_WITHOUT_WP: u64 = 0x8000_0001;
 
+/// CR4.SMEP.
 const SMEP: u64 = 1 << 20;
 
+/// CR4.SMAP.
 const SMAP: u64 = 1 << 21;
 
+/// CR4.PKE.
 const PKE: u64 = 1 << 22;
 
+/// CR4.PKS.
 const PKS: u64 = 1 << 24;
 
-/// 64-bit paging with write protection, and nothing else that refuses.
-const STATE: Regs = Regs {
-    cr0: 0x8001_0001,
-    cr3: 0x1000,
-    cr4: 0x20,
-    efer: 0xd00,
-    ac: false,
-    pkru: 0,
-    pkrs: 0,
-};
-
+/// A user page that permits everything.
 const USER_PAGE: Bits = Bits {
     write: true,
     user: true,
     xd: false,
 };
 
+/// A supervisor page that permits everything.
 const SUPERVISOR_PAGE: Bits = Bits {
     user: false,
     ..USER_PAGE
 };
 
+/// A page whose R/W is 0.
 fn read_only(page: Bits) -> Bits {
     Bits {
         write: false,
@@ -46,15 +45,16 @@ fn read_only(page: Bits) -> Bits {
     }
 }
 
+/// A page with execute-disable.
 fn not_executable(page: Bits) -> Bits {
     Bits { xd: true, ..page }
 }
 
-/// The state with these bits of CR4 too.
+/// The registers with these bits of CR4 too.
 fn with_cr4(bits: u64) -> Regs {
     Regs {
-        cr4: STATE.cr4 | bits,
-        ..STATE
+        cr4: REGS.cr4 | bits,
+        ..REGS
     }
 }
 
@@ -71,8 +71,8 @@ fn goes_by_the_half_and_smep(rt: HostRuntime) {
     check(
         &rt,
         &[
-            (STATE, USER_PAGE, 0b1111_1111),
-            (STATE, SUPERVISOR_PAGE, 0b1111_1000),
+            (REGS, USER_PAGE, 0b1111_1111),
+            (REGS, SUPERVISOR_PAGE, 0b1111_1000),
             (with_cr4(SMEP), USER_PAGE, 0b1101_1111),
             (with_cr4(SMEP), SUPERVISOR_PAGE, 0b1111_1000),
         ],
@@ -90,7 +90,7 @@ fn lets_explicit_accesses_pass_smap_under_ac(rt: HostRuntime) {
             (with_ac, USER_PAGE, 0b0011_1111),
             (smap, SUPERVISOR_PAGE, 0b1111_1000),
             (with_ac, SUPERVISOR_PAGE, 0b1111_1000),
-            (Regs { ac: true, ..STATE }, USER_PAGE, 0b1111_1111),
+            (Regs { ac: true, ..REGS }, USER_PAGE, 0b1111_1111),
         ],
     );
 }
@@ -99,14 +99,14 @@ fn lets_explicit_accesses_pass_smap_under_ac(rt: HostRuntime) {
 fn lets_supervisor_writes_pass_without_wp(rt: HostRuntime) {
     let without_wp = Regs {
         cr0: CR0_WITHOUT_WP,
-        ..STATE
+        ..REGS
     };
     check(
         &rt,
         &[
-            (STATE, read_only(USER_PAGE), 0b0110_1101),
+            (REGS, read_only(USER_PAGE), 0b0110_1101),
             (without_wp, read_only(USER_PAGE), 0b1111_1101),
-            (STATE, read_only(SUPERVISOR_PAGE), 0b0110_1000),
+            (REGS, read_only(SUPERVISOR_PAGE), 0b0110_1000),
             (without_wp, read_only(SUPERVISOR_PAGE), 0b1111_1000),
         ],
     );
@@ -117,8 +117,8 @@ fn refuses_fetches_under_xd(rt: HostRuntime) {
     check(
         &rt,
         &[
-            (STATE, not_executable(USER_PAGE), 0b1101_1011),
-            (STATE, not_executable(SUPERVISOR_PAGE), 0b1101_1000),
+            (REGS, not_executable(USER_PAGE), 0b1101_1011),
+            (REGS, not_executable(SUPERVISOR_PAGE), 0b1101_1000),
         ],
     );
 }
@@ -206,7 +206,7 @@ fn goes_by_pkrs_for_supervisor_pages(rt: HostRuntime) {
 }
 
 #[test]
-fn tells_the_first_rule(rt: HostRuntime) {
+fn gives_the_first_rule(rt: HostRuntime) {
     let guarded = Regs {
         pkru: u32::MAX,
         ..with_cr4(SMEP | SMAP | PKE)

@@ -4,7 +4,7 @@ use Rattle.std.specs.Prelude.{not, ◌==◌, if◌then◌else◌}
 use Rattle.std.proofs.lemmas.Grind.{common_steps}
 use Rattle.std.proofs.lemmas.Bool.Decides.{nat_tests}
 use Rattle.paging_model.specs.LinearAddress.{is_canonical}
-use Rattle.paging_model.specs.Pointers.{admitted, address_of, aim_of, is_at, lass_refuses, mask_width, reaches}
+use Rattle.paging_model.specs.Pointers.{aim_at, address_of, aim_of, is_at, lass_refuses, mask_width, reaches}
 use Rattle.paging_model.specs.Registers.{la57, lass}
 use Rattle.paging_model.specs.declared.registers.Regs.{Regs}
 use Rattle.paging_model.specs.declared.access.Access.{Access}
@@ -26,7 +26,7 @@ not_there true refused = refl
 not_there false refused = refl
 
 at_found : (regs : Regs) (access : Access) (y x : ℕ) (same : Bool) → (y == x) ≡ same →
-    is_at (admitted regs access (Some y)) x
+    is_at (aim_at regs access (Some y)) x
     ≡ ((is_canonical (la57 regs) x && y == x) && not (lass regs && lass_refuses regs access x))
 at_found regs access y x true e =
     let it : y ≡ x = grind (arith, nat_tests) in
@@ -35,18 +35,18 @@ at_found regs access y x false e =
     rw (elsewhere (is_canonical (la57 regs) y) (lass regs && lass_refuses regs access y) y x e, e)
     (sym (not_there (is_canonical (la57 regs) x) (lass regs && lass_refuses regs access x)))
 
-is_at-admitted : (regs : Regs) (access : Access) (found : Option ℕ) (x : ℕ) →
-    is_at (admitted regs access found) x
+is_at-aim_at : (regs : Regs) (access : Access) (found : Option ℕ) (x : ℕ) →
+    is_at (aim_at regs access found) x
     ≡ ((is_canonical (la57 regs) x && is_same found x) && not (lass regs && lass_refuses regs access x))
-is_at-admitted regs access (Some y) x = at_found regs access y x (y == x) refl
-is_at-admitted regs access None x =
+is_at-aim_at regs access (Some y) x = at_found regs access y x (y == x) refl
+is_at-aim_at regs access None x =
     sym (not_there (is_canonical (la57 regs) x) (lass regs && lass_refuses regs access x))
 
 -- an address is reached where it is canonical, masking leaves it as it is, and LASS doesn't keep its half
 pub reaches_is : (regs : Regs) (address : ℕ) (access : Access) →
-    reaches regs address access
+    reaches regs access address
     ≡ ((is_canonical (la57 regs) address && is_same (address_of (mask_width regs access address) address) address)
     && not (lass regs && lass_refuses regs access address))
 unfolding aim_of
 reaches_is regs address access =
-    is_at-admitted regs access (address_of (mask_width regs access address) address) address
+    is_at-aim_at regs access (address_of (mask_width regs access address) address) address

@@ -8,16 +8,16 @@ ghost use Rattle.paging_model.specs.Pointers.{address_of as address_by, aim_of, 
 ghost use Rattle.paging_model.specs.Registers.{la57, lass};
 ghost use Rattle.paging_model.specs.declared.access.Access.{Access};
 
-use crate::masking::{UPPER, address_of, mask_width};
-use access_rights::set_numbers::{
-    ALL, FETCHES, IMPLICIT, NONE, SUPERVISOR, SUPERVISOR_FETCH, USER,
+use crate::masking::{UPPER, address_of, mask_accesses, mask_width};
+use access_rights::kinds::{
+    all_accesses, fetches, if_true, smap_accesses, supervisor_accesses, user_accesses,
 };
-use access_rights::{Access, Rights};
-use paging_model::access::AimRule;
+use paging_model::access::{Access, AimRule};
+use paging_model::access_sets::Rights;
 use paging_model::registers::Regs;
 use proc_regs::bit_ranges::bit;
 use proc_regs::canonical;
-use proc_regs::register_bits::{CR4_LA57, CR4_LASS, CR4_SMAP};
+use proc_regs::register_bits::{CR4_LA57, CR4_LASS};
 
 /// The linear address that an access by a pointer goes to.
 ///
@@ -42,49 +42,47 @@ pub fn aim(regs: &Regs, access: Access, pointer: u64) -> Result<u64, AimRule>
     Ok(address)
 }
 
-/// The accesses that go to an address by the pointer that spells it: those for which `aim` of the address is the address
-/// itself. Where it isn't canonical there are none.
+/// The accesses that go to an address by the pointer that spells it: those for which `aim` of the address is the
+/// address itself. Where it isn't canonical there are none.
 #[tactic(auto, using(crate::proofs::Reached::reaches_is))]
 pub fn reach(regs: &Regs, address: u64) -> Rights
-    ensures { (access : Access) → has result access ≡ reaches regs.now address access }
+    ensures { (access : Access) → has result access ≡ reaches regs.now access address }
 {
     if_canonical(regs, address)
         .meet(&kept_by_masking(regs, address))
         .minus(&lass_refusals(regs, address))
 }
 
-// Each access where an address is canonical, else none.
+/// Each access where an address is canonical, else none.
 fn if_canonical(regs: &Regs, address: u64) -> Rights
     ensures { (access : Access) → has result access ≡ is_canonical (la57 regs.now) address }
 {
-    let canonical = canonical(bit(regs.cr4, CR4_LA57), address);
-    Rights::of_number(if canonical { ALL } else { NONE })
+    if_true(canonical(bit(regs.cr4, CR4_LA57), address), all_accesses())
 }
 
-// The accesses whose masking leaves an address as it is.
+/// The accesses whose masking leaves an address as it is.
 fn kept_by_masking(regs: &Regs, address: u64) -> Rights
-    ensures { (access : Access) → has result access ≡ is_same (address_by (width_of regs.now access address) address) address }
+    ensures { (access : Access) → has result access
+        ≡ is_same (address_by (width_of regs.now access address) address) address }
 {
     // The accesses that are masked are masked alike, those of the user and those of the supervisor.
     let width = mask_width(regs, Access::Ur, address);
-    let kept = address_of(width, address) == Some(address);
-    Rights::of_number(if kept { ALL } else { FETCHES | IMPLICIT })
+    if address_of(width, address) == Some(address) {
+        all_accesses()
+    } else {
+        all_accesses().minus(&mask_accesses())
+    }
 }
 
-// The accesses from which LASS keeps the half of an address.
+/// The accesses from which LASS keeps the half of an address.
 fn lass_refusals(regs: &Regs, address: u64) -> Rights
-    ensures { (access : Access) → has result access ≡ (lass regs.now && lass_refuses regs.now access address) }
+    ensures { (access : Access) → has result access
+        ≡ (lass regs.now && lass_refuses regs.now access address) }
 {
-    // Supervisor data accesses are kept from the lower half while SMAP is on, explicit ones while AC is 0.
-    let lower = match (bit(regs.cr4, CR4_SMAP), regs.ac) {
-        (false, _) => SUPERVISOR_FETCH,
-        (true, false) => SUPERVISOR,
-        (true, true) => SUPERVISOR_FETCH | IMPLICIT,
-    };
-    let kept_out = if bit(address, UPPER) { USER } else { lower };
-    Rights::of_number(if bit(regs.cr4, CR4_LASS) {
-        kept_out
+    let refused = if bit(address, UPPER) {
+        user_accesses()
     } else {
-        NONE
-    })
+        supervisor_accesses().meet(&fetches().join(&smap_accesses(regs)))
+    };
+    if_true(bit(regs.cr4, CR4_LASS), refused)
 }

@@ -10,7 +10,6 @@ mod aiming;
 mod masking;
 
 pub use aiming::{aim, reach};
-pub use paging_model::access::AimRule;
 
 #[cfg(test)]
 mod tests;

@@ -1,10 +1,14 @@
 //! Linear-address masking: the bits of a pointer that aren't part of its address.
 
 ghost use Rattle.std.specs.Prelude.{◌≡◌, ◌≤◌, ℕ, Some, None, if◌then◌else◌};
-ghost use Rattle.paging_model.specs.Pointers.{address_of as address_by, mask_width as width_of, masked as masked_by};
+ghost use Rattle.paging_model.specs.AccessSets.{has};
+ghost use Rattle.paging_model.specs.Pointers.{address_of as address_by, is_masked, mask_width as width_of, masked_pointer as masked_by};
 ghost use Rattle.paging_model.specs.Registers.{la57, lam_sup, lam_u48, lam_u57};
+ghost use Rattle.paging_model.specs.declared.access.Access.{Access};
 
+use access_rights::kinds::{data_accesses, implicit_accesses};
 use paging_model::access::Access;
+use paging_model::access_sets::Rights;
 use paging_model::registers::Regs;
 use proc_regs::bit_ranges::{bit, field};
 use proc_regs::register_bits::{CR3_LAM_U48, CR3_LAM_U57, CR4_LA57, CR4_LAM_SUP};
@@ -16,17 +20,20 @@ pub const UPPER: u8 = 63;
 pub fn mask_width(regs: &Regs, access: Access, pointer: u64) -> Option<u8>
     ensures { result ≡ width_of regs.now access pointer }
 {
-    match access {
-        // Fetches and implicit accesses aren't masked.
-        Access::Ux | Access::Sx | Access::Ir | Access::Iw => None,
-        Access::Ur | Access::Uw | Access::Sr | Access::Sw => {
-            if bit(pointer, UPPER) {
-                supervisor_width(regs)
-            } else {
-                user_width(regs)
-            }
-        }
+    if !mask_accesses().has(access) {
+        None
+    } else if bit(pointer, UPPER) {
+        supervisor_width(regs)
+    } else {
+        user_width(regs)
     }
+}
+
+/// The accesses whose pointers are masked: explicit ones to data.
+pub fn mask_accesses() -> Rights
+    ensures { (access : Access) → has result access ≡ is_masked access }
+{
+    data_accesses().minus(&implicit_accesses())
 }
 
 /// The address of a pointer that is masked to a width, or of one that isn't masked. None where bit 63 and the highest
@@ -39,15 +46,16 @@ pub fn address_of(width: Option<u8>, pointer: u64) -> Option<u64>
     match width {
         None => Some(pointer),
         Some(width) if bit(pointer, UPPER) == bit(pointer, width - 1) => {
-            Some(masked(pointer, width))
+            Some(masked_pointer(pointer, width))
         }
         Some(_) => None,
     }
 }
 
-// The width of supervisor pointers: 57 under 5-level paging, 48 under 4-level paging.
+/// The width of supervisor pointers: 57 under 5-level paging, 48 under 4-level paging.
 fn supervisor_width(regs: &Regs) -> Option<u8>
-    ensures { result ≡ (if lam_sup regs.now then Some (if la57 regs.now then 57 else 48) else None) }
+    ensures { result
+        ≡ (if lam_sup regs.now then Some (if la57 regs.now then 57 else 48) else None) }
 {
     if bit(regs.cr4, CR4_LAM_SUP) {
         Some(if bit(regs.cr4, CR4_LA57) { 57 } else { 48 })
@@ -56,9 +64,10 @@ fn supervisor_width(regs: &Regs) -> Option<u8>
     }
 }
 
-// The width of user pointers: 57 (LAM_U57) before 48 (LAM_U48).
+/// The width of user pointers: 57 (LAM_U57) before 48 (LAM_U48).
 fn user_width(regs: &Regs) -> Option<u8>
-    ensures { result ≡ (if lam_u57 regs.now then Some 57 else (if lam_u48 regs.now then Some 48 else None)) }
+    ensures { result
+        ≡ (if lam_u57 regs.now then Some 57 else (if lam_u48 regs.now then Some 48 else None)) }
 {
     if bit(regs.cr3, CR3_LAM_U57) {
         Some(57)
@@ -69,8 +78,8 @@ fn user_width(regs: &Regs) -> Option<u8>
     }
 }
 
-// The pointer with bits 62:width each replaced by the bit below them.
-fn masked(pointer: u64, width: u8) -> u64
+/// The pointer with bits 62:width each replaced by the bit below them.
+fn masked_pointer(pointer: u64, width: u8) -> u64
     requires least { 2 ≤ width }
     requires most { width ≤ 62 }
     ensures { result ≡ masked_by pointer width }

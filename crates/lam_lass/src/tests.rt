@@ -1,35 +1,33 @@
 //! Tables whose answers were worked out by hand from the manual's rules.
 
 use super::*;
-use access_rights::Access;
+use paging_model::access::{Access, AimRule};
 use paging_model::registers::Regs;
 use std::process::Abort;
+use test_support::registers::REGS;
 
+/// CR3.LAM_U57.
 const LAM_U57: u64 = 1 << 61;
 
+/// CR3.LAM_U48.
 const LAM_U48: u64 = 1 << 62;
 
+/// CR4.LA57.
 const LA57: u64 = 1 << 12;
 
+/// CR4.SMAP.
 const SMAP: u64 = 1 << 21;
 
+/// CR4.LASS.
 const LASS: u64 = 1 << 27;
 
+/// CR4.LAM_SUP.
 const LAM_SUP: u64 = 1 << 28;
 
-/// 64-bit paging with 4 levels, without masking.
-const STATE: Regs = Regs {
-    cr0: 0x8001_0001,
-    cr3: 0x1000,
-    cr4: 0x20,
-    efer: 0xd00,
-    ac: false,
-    pkru: 0,
-    pkrs: 0,
-};
-
+/// An address of the lower half.
 const LOWER: u64 = 0x1000;
 
+/// An address of the upper half.
 const UPPER: u64 = 0xffff_8000_0000_0000;
 
 /// `LOWER` with bits 62:48 set, which masking to 48 bits takes away.
@@ -37,12 +35,12 @@ const TAGGED_LOWER: u64 = 0x7fff_0000_0000_1000;
 /// `UPPER` with bits 62:56 clear, which masking to 48 bits sets.
 const TAGGED_UPPER: u64 = 0x80ff_8000_0000_0000;
 
-/// The state with these bits of CR3 and CR4 too.
+/// The registers with these bits of CR3 and CR4 too.
 fn with(cr3: u64, cr4: u64) -> Regs {
     Regs {
-        cr3: STATE.cr3 | cr3,
-        cr4: STATE.cr4 | cr4,
-        ..STATE
+        cr3: REGS.cr3 | cr3,
+        cr4: REGS.cr4 | cr4,
+        ..REGS
     }
 }
 
@@ -73,7 +71,7 @@ fn masks_user_pointers(rt: HostRuntime) {
     check(
         &rt,
         &[
-            (STATE, Access::Ur, TAGGED_LOWER, refused),
+            (REGS, Access::Ur, TAGGED_LOWER, refused),
             (with(LAM_U48, 0), Access::Ur, TAGGED_LOWER, Ok(LOWER)),
             (with(LAM_U48, 0), Access::Uw, TAGGED_LOWER, Ok(LOWER)),
             (with(LAM_U48, 0), Access::Sr, TAGGED_LOWER, Ok(LOWER)),
@@ -146,8 +144,8 @@ fn separates_the_halves(rt: HostRuntime) {
     check_reach(
         &rt,
         &[
-            (STATE, LOWER, 0b1111_1111),
-            (STATE, UPPER, 0b1111_1111),
+            (REGS, LOWER, 0b1111_1111),
+            (REGS, UPPER, 0b1111_1111),
             (with(0, SMAP), LOWER, 0b1111_1111),
             (with(0, LASS), LOWER, 0b1101_1111),
             (with(0, LASS), UPPER, 0b1111_1000),
@@ -160,7 +158,7 @@ fn separates_the_halves(rt: HostRuntime) {
     check(
         &rt,
         &[
-            // LASS looks at the masked address, and after canonicality.
+            // LASS checks the masked address, and after canonicality.
             (with(0, LASS), Access::Sx, LOWER, Err(AimRule::Lass)),
             (
                 with(LAM_U48, LASS | SMAP),
@@ -188,7 +186,7 @@ fn reaches_what_masking_leaves(rt: HostRuntime) {
             (with(LAM_U48, LA57), 0x1_0000_0000_0000, 0b1110_0100),
             (with(LAM_U57, LA57), 0x8000_0000_0000, 0b1111_1111),
             (with(0, LAM_SUP), UPPER, 0b1111_1111),
-            (STATE, 0x8000_0000_0000, 0),
+            (REGS, 0x8000_0000_0000, 0),
         ],
     );
 }

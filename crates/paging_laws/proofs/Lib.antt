@@ -1,7 +1,7 @@
-pub mod Refusals
 pub mod Readings
 pub mod Reaching
 pub mod Serving
 pub mod MappedPages
 pub mod Pigeonholes
 pub mod OneListing
+pub mod WholeLists

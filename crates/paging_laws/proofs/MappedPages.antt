@@ -3,7 +3,7 @@ use Rattle.std.proofs.Common.{◌≡◌, ℕ, zero, suc, ◌-◌, ◌%◌, ◌^�
 use Rattle.std.specs.Prelude.{IsTrue, option_map}
 use Rattle.paging_model.specs.Memory.{Memory, entry_at}
 use Rattle.paging_model.specs.LinearAddress.{span, is_canonical}
-use Rattle.paging_model.specs.Entries.{entry_of, joined, root_bits}
+use Rattle.paging_model.specs.Entries.{entry_of, joined_bits, root_bits}
 use Rattle.paging_model.specs.Walking.{walk, walk_from, at_value, at_entry, entry_address, entry_read, own_frame, top_level}
 use Rattle.paging_model.specs.TableUses.{Reaches, at_root, below, Leaf, IsLeaf}
 use Rattle.paging_model.specs.declared.registers.Settings.{Settings}
@@ -22,7 +22,7 @@ use Rattle.paging_laws.proofs.Serving.{first_of, first_of-same, first_of-prefix,
 -- the page of a leaf
 abbrev pub page_of : ℕ → ℕ → ℕ → Bits → ℕ → Bool → Page
 page_of level x frame bits key global =
-    record { frame = own_frame level frame x; level = level; bits = bits; key = key; global = global }
+    record { frame = own_frame level x frame; level = level; bits = bits; key = key; global = global }
 
 -- the walk of x comes to a leaf of a table, and ends at this page
 pub record Ending (memory : Memory) (settings : Settings) (root x : ℕ) (page : Page) : Type 0 where
@@ -33,16 +33,16 @@ pub record Ending (memory : Memory) (settings : Settings) (root x : ℕ) (page :
   pub bits : Bits
   pub key : ℕ
   pub global : Bool
-  pub reached : Reaches memory settings root x (suc lower) table above
-  pub read : entry_read memory settings (suc lower) table x ≡ Some (entry.Leaf frame bits key global)
-  pub is_page : page_of (suc lower) x frame (joined above bits) key global ≡ page
+  pub reached : Reaches memory settings root (suc lower) x table above
+  pub read : entry_read memory settings (suc lower) x table ≡ Some (entry.Leaf frame bits key global)
+  pub is_page : page_of (suc lower) x frame (joined_bits above bits) key global ≡ page
 
 module _ (memory : Memory) (settings : Settings) (root x : ℕ) (page : Page) where
-  ending_at_entry : (lower table : ℕ) (above : Bits) → Reaches memory settings root x (suc lower) table above
-      → ((frame : ℕ) (bits : Bits) → Reaches memory settings root x lower frame (joined above bits)
-      → walk_from memory settings x lower frame (joined above bits) ≡ Mapped page → Ending memory settings root x page)
-      → (meaning : Entry) → entry_read memory settings (suc lower) table x ≡ Some meaning
-      → at_entry (λ frame bits. walk_from memory settings x lower frame bits) (suc lower) x above meaning ≡ Mapped page
+  ending_at_entry : (lower table : ℕ) (above : Bits) → Reaches memory settings root (suc lower) x table above
+      → ((frame : ℕ) (bits : Bits) → Reaches memory settings root lower x frame (joined_bits above bits)
+      → walk_from memory settings lower x frame (joined_bits above bits) ≡ Mapped page → Ending memory settings root x page)
+      → (meaning : Entry) → entry_read memory settings (suc lower) x table ≡ Some meaning
+      → at_entry (λ frame bits. walk_from memory settings lower x frame bits) (suc lower) x above meaning ≡ Mapped page
       → Ending memory settings root x page
   ending_at_entry lower table above reached go entry.Absent read ends = absurd cc
   ending_at_entry lower table above reached go entry.Reserved read ends = absurd cc
@@ -60,24 +60,24 @@ module _ (memory : Memory) (settings : Settings) (root x : ℕ) (page : Page) wh
     is_page = cc;
   }
 
-  ending_at_value : (lower table : ℕ) (above : Bits) → Reaches memory settings root x (suc lower) table above
-      → ((frame : ℕ) (bits : Bits) → Reaches memory settings root x lower frame (joined above bits)
-      → walk_from memory settings x lower frame (joined above bits) ≡ Mapped page → Ending memory settings root x page)
-      → (value : Option ℕ) → entry_at memory (entry_address (suc lower) table x) ≡ value
-      → at_value (λ frame bits. walk_from memory settings x lower frame bits) settings (suc lower) x above value ≡ Mapped page
+  ending_at_value : (lower table : ℕ) (above : Bits) → Reaches memory settings root (suc lower) x table above
+      → ((frame : ℕ) (bits : Bits) → Reaches memory settings root lower x frame (joined_bits above bits)
+      → walk_from memory settings lower x frame (joined_bits above bits) ≡ Mapped page → Ending memory settings root x page)
+      → (value : Option ℕ) → entry_at memory (entry_address (suc lower) x table) ≡ value
+      → at_value (λ frame bits. walk_from memory settings lower x frame bits) settings (suc lower) x above value ≡ Mapped page
       → Ending memory settings root x page
   ending_at_value lower table above reached go None is ends = absurd cc
   ending_at_value lower table above reached go (Some number) is ends =
       ending_at_entry lower table above reached go (entry_of (suc lower) settings number)
       (ap (option_map (λ value. entry_of (suc lower) settings value)) is) ends
 
-  ending_from : (level table : ℕ) (above : Bits) → Reaches memory settings root x level table above
-      → walk_from memory settings x level table above ≡ Mapped page → Ending memory settings root x page
+  ending_from : (level table : ℕ) (above : Bits) → Reaches memory settings root level x table above
+      → walk_from memory settings level x table above ≡ Mapped page → Ending memory settings root x page
   unfolding walk_from
   ending_from zero table above reached ends = absurd cc
   ending_from (suc lower) table above reached ends =
-      ending_at_value lower table above reached (λ frame bits below_it ends_below. ending_from lower frame (joined above bits) below_it ends_below)
-      (entry_at memory (entry_address (suc lower) table x)) refl ends
+      ending_at_value lower table above reached (λ frame bits below_it ends_below. ending_from lower frame (joined_bits above bits) below_it ends_below)
+      (entry_at memory (entry_address (suc lower) x table)) refl ends
 
   -- a walk that ends at a page came to the leaf of one
   pub ending : walk memory settings root x ≡ Mapped page → Ending memory settings root x page
@@ -86,7 +86,7 @@ module _ (memory : Memory) (settings : Settings) (root x : ℕ) (page : Page) wh
 
 ends_at_value : (go : ℕ → Bits → Walk) (settings : Settings) (level x : ℕ) (above : Bits) (value : Option ℕ) (frame : ℕ) (bits : Bits) (key : ℕ) (global : Bool)
     → option_map (λ number. entry_of level settings number) value ≡ Some (entry.Leaf frame bits key global)
-    → at_value go settings level x above value ≡ Mapped (page_of level x frame (joined above bits) key global)
+    → at_value go settings level x above value ≡ Mapped (page_of level x frame (joined_bits above bits) key global)
 ends_at_value go settings level x above None frame bits key global means = absurd cc
 ends_at_value go settings level x above (Some number) frame bits key global means =
     let meaning : entry_of level settings number ≡ entry.Leaf frame bits key global = cc in
@@ -98,22 +98,22 @@ module _ {memory : Memory} {settings : Settings} {root x : ℕ} {page : Page} wh
 
   -- a leaf maps each address of its range
   walk-in_range : (end : Ending memory settings root x page) (y : ℕ) → AreInOneRange (suc end.lower) x y
-      → walk memory settings root y ≡ Mapped (page_of (suc end.lower) y end.frame (joined end.above end.bits) end.key end.global)
+      → walk memory settings root y ≡ Mapped (page_of (suc end.lower) y end.frame (joined_bits end.above end.bits) end.key end.global)
   walk-in_range end y same =
-      let reached : Reaches memory settings root y (suc end.lower) end.table end.above =
+      let reached : Reaches memory settings root (suc end.lower) y end.table end.above =
       Reaches-same_span end.reached (same_span_above (suc end.lower) x y (omega arith) same) in
-      let read : entry_read memory settings (suc end.lower) end.table y ≡ Some (entry.Leaf end.frame end.bits end.key end.global) = rw (← same) end.read in
+      let read : entry_read memory settings (suc end.lower) y end.table ≡ Some (entry.Leaf end.frame end.bits end.key end.global) = rw (← same) end.read in
       walk-reached reached
       ∙ (walk_from-step memory settings y (suc end.lower) end.table end.above (omega arith)
-      ∙ ends_at_value (λ frame bits. walk_from memory settings y (suc end.lower - 1) frame bits) settings (suc end.lower) y end.above
-      (entry_at memory (entry_address (suc end.lower) end.table y)) end.frame end.bits end.key end.global read)
+      ∙ ends_at_value (λ frame bits. walk_from memory settings (suc end.lower - 1) y frame bits) settings (suc end.lower) y end.above
+      (entry_at memory (entry_address (suc end.lower) y end.table)) end.frame end.bits end.key end.global read)
 
   alike_from : (end : Ending memory settings root x page) (y : ℕ) → AreInOneRange (suc end.lower) x y → IsMappedAlike memory settings root x y page
   alike_from end y same =
       let level = ending_level end in
-      let frame : own_frame (suc end.lower) end.frame x ≡ page.frame = ap (λ (it : Page). it.frame) end.is_page in
+      let frame : own_frame (suc end.lower) x end.frame ≡ page.frame = ap (λ (it : Page). it.frame) end.is_page in
       record {
-        other = page_of (suc end.lower) y end.frame (joined end.above end.bits) end.key end.global;
+        other = page_of (suc end.lower) y end.frame (joined_bits end.above end.bits) end.key end.global;
         mapped = walk-in_range end y same;
         frame = rw (← level) (omega arith);
         level = level;
@@ -128,7 +128,7 @@ module _ {memory : Memory} {settings : Settings} {root x : ℕ} {page : Page} wh
       alike_from end y (subst (λ (level : ℕ). AreInOneRange level x y) (sym (ending_level end)) same)
 
   -- each mapped page of a canonical address has a leaf that serves the address
-  pub leaf_for : x < 2 ^ 64 → IsTrue (is_canonical settings.la57 x) → walk memory settings root x ≡ Mapped page → LeafFor memory settings root x page.level
+  pub leaf_for : x < 2 ^ 64 → IsTrue (is_canonical settings.la57 x) → walk memory settings root x ≡ Mapped page → LeafFor memory settings root page.level x
   leaf_for is_below canonical maps =
       let end = ending memory settings root x page maps in
       let level : ℕ = suc end.lower in
@@ -136,7 +136,7 @@ module _ {memory : Memory} {settings : Settings} {root x : ℕ} {page : Page} wh
         leaf = record { level = level; prefix = first_of level x };
         is_leaf = record {
           prefix = first_of-prefix settings level x (Reaches-level end.reached) is_below canonical;
-          page = page_of level (first_of level x) end.frame (joined end.above end.bits) end.key end.global;
+          page = page_of level (first_of level x) end.frame (joined_bits end.above end.bits) end.key end.global;
           mapped = walk-in_range end (first_of level x) (first_of-same level x);
           level = refl;
         };
@@ -151,7 +151,7 @@ leaf_level {memory = memory} {settings = settings} {root = root} leaf is_leaf x 
     let end = ending memory settings root leaf.prefix is_leaf.page is_leaf.mapped in
     let level : suc end.lower ≡ leaf.level = ending_level end ∙ is_leaf.level in
     let same : AreInOneRange (suc end.lower) leaf.prefix x = subst (λ (l : ℕ). AreInOneRange l leaf.prefix x) (sym level) (sym served) in
-    (page_of (suc end.lower) x end.frame (joined end.above end.bits) end.key end.global, walk-in_range end x same, level)
+    (page_of (suc end.lower) x end.frame (joined_bits end.above end.bits) end.key end.global, walk-in_range end x same, level)
 
 leaf_of : ℕ → ℕ → Leaf
 leaf_of level prefix = record { level = level; prefix = prefix }

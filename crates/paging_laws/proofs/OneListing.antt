@@ -7,7 +7,7 @@ use Rattle.paging_model.specs.LinearAddress.{IsPage}
 use Rattle.paging_model.specs.Listings.{Stretch, IsStretch, AreStretches, IsOneWith, AreApart, target_in, IsListing, stretch_of_area, stretch_of_region, AreAreas, AreRegions}
 use Rattle.paging_model.specs.Memory.{Memory}
 use Rattle.paging_model.specs.Registers.{la57, root_of}
-use Rattle.paging_model.specs.Translations.{Target, Protection, protected, present}
+use Rattle.paging_model.specs.Translations.{Target, Protection, raw_target, present_target}
 use Rattle.paging_model.specs.declared.registers.Machine.{Machine}
 use Rattle.paging_model.specs.declared.registers.Regs.{Regs}
 use Rattle.paging_model.specs.declared.registers.Settings.{Settings}
@@ -21,8 +21,8 @@ within_both first last page h k = grind (arith, nat_tests)
 below_first : (first last page : ℕ) → page < first → (nat_le first page && nat_le page last) ≡ false
 below_first first last page h = grind (arith, nat_tests)
 
-behind_last : (first last page : ℕ) → last < page → (nat_le first page && nat_le page last) ≡ false
-behind_last first last page h = grind (arith, nat_tests)
+after_last : (first last page : ℕ) → last < page → (nat_le first page && nat_le page last) ≡ false
+after_last first last page h = grind (arith, nat_tests)
 
 module _ {Kind : Type 0} where
   -- what a stretch maps one of its pages to
@@ -33,9 +33,9 @@ module _ {Kind : Type 0} where
       → target_in (one ∷ rest) page ≡ Some (target_of one page)
   target_in-within one rest page from to = rw (within_both one.first one.last page from to) refl
 
-  pub target_in-behind : (one : Stretch Kind) (rest : List (Stretch Kind)) (page : ℕ) → one.last < page
+  pub target_in-after : (one : Stretch Kind) (rest : List (Stretch Kind)) (page : ℕ) → one.last < page
       → target_in (one ∷ rest) page ≡ target_in rest page
-  target_in-behind one rest page behind = rw (behind_last one.first one.last page behind) refl
+  target_in-after one rest page after = rw (after_last one.first one.last page after) refl
 
   target_in-skip : (one : Stretch Kind) (rest : List (Stretch Kind)) (page : ℕ) → page < one.first
       → target_in (one ∷ rest) page ≡ target_in rest page
@@ -112,7 +112,7 @@ module _ {Kind : Type 0} where
     same_kind : one.first ≡ other.first → one.kind ≡ other.kind
     same_kind begin = ap (λ (target : Target Kind). target.kind) (same_target begin)
 
-  -- the page behind a stretch, where another that begins with it goes on
+  -- the page after a stretch, where another that begins with it goes on
   next_page : (five_levels : Bool) (one other : Stretch Kind) → IsStretch five_levels one → IsStretch five_levels other
       → one.first ≡ other.first → one.last < other.last → IsPage five_levels (one.last + 1)
   next_page five_levels one other is_one is_other begin earlier =
@@ -132,13 +132,13 @@ module _ {Kind : Type 0} where
       → one.first ≡ other.first → one.frame ≡ other.frame → one.kind ≡ other.kind → one.last < other.last → ⊥
   ends_no_earlier five_levels one other [] others stretches others_stretches apart agree begin frame kind earlier =
       let page = next_page five_levels one other stretches.0 others_stretches.0 begin earlier in
-      let none = target_in-behind one [] (one.last + 1) (omega arith) in
+      let none = target_in-after one [] (one.last + 1) (omega arith) in
       let maps = target_in-within other others (one.last + 1) (omega (arith, stretches.0.some)) (omega arith) in
       some_is_not_none (sym maps ∙ (sym (agree (one.last + 1) page) ∙ none))
   ends_no_earlier five_levels one other (two ∷ rest) others stretches others_stretches apart agree begin frame kind earlier =
       let page = next_page five_levels one other stretches.0 others_stretches.0 begin earlier in
       let goes : target_in (two ∷ rest) (one.last + 1) ≡ Some (target_of other (one.last + 1)) =
-      sym (target_in-behind one (two ∷ rest) (one.last + 1) (omega arith))
+      sym (target_in-after one (two ∷ rest) (one.last + 1) (omega arith))
       ∙ (agree (one.last + 1) page ∙ target_in-within other others (one.last + 1) (omega (arith, stretches.0.some)) (omega arith)) in
       elim (cases_lt (one.last + 1) two.first) [
         | inl before ↦ some_is_not_none (sym goes ∙ target_in-before five_levels two rest (one.last + 1) stretches.1 apart.2 before)
@@ -176,13 +176,13 @@ module _ {Kind : Type 0} where
       let end : one.last ≡ other.last = omega arith in
       same_stretch one.first other.first one.last other.last one.frame other.frame one.kind other.kind begin end frame kind
 
-  -- behind one first stretch two lists agree too
-  agree_behind : (five_levels : Bool) (one : Stretch Kind) (rest others : List (Stretch Kind))
+  -- after one first stretch two lists agree too
+  agree_after : (five_levels : Bool) (one : Stretch Kind) (rest others : List (Stretch Kind))
       → AreStretches five_levels (one ∷ rest) → AreStretches five_levels (one ∷ others) → AreApart (one ∷ rest) → AreApart (one ∷ others)
       → Agree five_levels (one ∷ rest) (one ∷ others) → Agree five_levels rest others
-  agree_behind five_levels one rest others stretches others_stretches apart others_apart agree page is =
+  agree_after five_levels one rest others stretches others_stretches apart others_apart agree page is =
       elim (cases_lt one.last page) [
-        | inl behind ↦ sym (target_in-behind one rest page behind) ∙ (agree page is ∙ target_in-behind one others page behind)
+        | inl after ↦ sym (target_in-after one rest page after) ∙ (agree page is ∙ target_in-after one others page after)
         | inr up_to ↦
             target_in-up_to five_levels one rest page stretches.1 apart up_to
             ∙ sym (target_in-up_to five_levels one others page others_stretches.1 others_apart up_to)
@@ -205,9 +205,9 @@ module _ {Kind : Type 0} where
       let stretches' : AreStretches five_levels (one ∷ others) = subst (λ (it : Stretch Kind). AreStretches five_levels (it ∷ others)) (sym head) others_stretches in
       let apart' : AreApart (one ∷ others) = subst (λ (it : Stretch Kind). AreApart (it ∷ others)) (sym head) others_apart in
       let agree' : Agree five_levels (one ∷ rest) (one ∷ others) = subst (λ (it : Stretch Kind). Agree five_levels (one ∷ rest) (it ∷ others)) (sym head) agree in
-      let behind = agree_behind five_levels one rest others stretches stretches' apart apart' agree' in
+      let after = agree_after five_levels one rest others stretches stretches' apart apart' agree' in
       let tail : rest ≡ others =
-      same_list five_levels rest others stretches.1 others_stretches.1 (apart_rest one rest apart) (apart_rest other others others_apart) behind in
+      same_list five_levels rest others stretches.1 others_stretches.1 (apart_rest one rest apart) (apart_rest other others others_apart) after in
       cc
 
   -- one list at most is the listing of a target
@@ -232,7 +232,7 @@ module _ {Kind : Type 0} where
   target_of-union : (one other : Stretch Kind) (page : ℕ) → IsOneWith one other → one.first ≤ one.last → one.last < page
       → target_of other page ≡ target_of (union one other) page
   unfolding target_made
-  target_of-union one other page makes_one some behind =
+  target_of-union one other page makes_one some after =
       same_target_made (other.frame + (page - other.first)) (one.frame + (page - one.first)) other.kind one.kind
       (omega (arith, makes_one.touches, makes_one.goes_on)) makes_one.same
 
@@ -249,11 +249,11 @@ module _ {Kind : Type 0} where
           | inr up_to ↦
               target_in-within one (other ∷ rest) page from up_to
               ∙ sym (target_in-within (union one other) rest page from (omega (arith, makes_one.touches, is_other.some)))
-          | inl behind ↦ target_in-behind one (other ∷ rest) page behind ∙ elim (cases_lt other.last page) [
-            | inl far ↦ target_in-behind other rest page far ∙ sym (target_in-behind (union one other) rest page far)
+          | inl after ↦ target_in-after one (other ∷ rest) page after ∙ elim (cases_lt other.last page) [
+            | inl far ↦ target_in-after other rest page far ∙ sym (target_in-after (union one other) rest page far)
             | inr near ↦
                 target_in-within other rest page (omega (arith, makes_one.touches)) near
-                ∙ (ap Some (target_of-union one other page makes_one (omega (arith, is_one.some)) behind) ∙ sym (target_in-within (union one other) rest page from near))
+                ∙ (ap Some (target_of-union one other page makes_one (omega (arith, is_one.some)) after) ∙ sym (target_in-within (union one other) rest page from near))
           ]
         ]
       ]
@@ -304,10 +304,10 @@ pub areas_are_one : (memory : Memory) (machine : Machine) (regs : Regs) (one oth
     → AreAreas memory machine regs one → AreAreas memory machine regs other → one ≡ other
 areas_are_one memory machine regs one other are_one are_other =
     map_is_one stretch_of_area stretch_of_area-one one other
-    (listing_is_one (la57 regs) (present memory machine regs (root_of regs machine)) (map stretch_of_area one) (map stretch_of_area other) are_one are_other)
+    (listing_is_one (la57 regs) (present_target memory machine regs (root_of regs machine)) (map stretch_of_area one) (map stretch_of_area other) are_one are_other)
 
 pub regions_are_one : (memory : Memory) (settings : Settings) (root : ℕ) (one other : List Region)
     → AreRegions memory settings root one → AreRegions memory settings root other → one ≡ other
 regions_are_one memory settings root one other are_one are_other =
     map_is_one stretch_of_region stretch_of_region-one one other
-    (listing_is_one settings.la57 (protected memory settings root) (map stretch_of_region one) (map stretch_of_region other) are_one are_other)
+    (listing_is_one settings.la57 (raw_target memory settings root) (map stretch_of_region one) (map stretch_of_region other) are_one are_other)

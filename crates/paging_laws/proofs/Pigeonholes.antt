@@ -7,25 +7,25 @@ use Rattle.paging_model.specs.declared.registers.Settings.{Settings}
 
 module _ {Thing : Type 0} where
   split_at : (thing : Thing) (things : List Thing) → IsIn thing things
-      → (before : List Thing) × (behind : List Thing) × (things ≡ before ++ thing ∷ behind)
+      → (before : List Thing) × (after : List Thing) × (things ≡ before ++ thing ∷ after)
   split_at thing [] is_in = absurd is_in
   split_at thing (one ∷ rest) (inl is_one) = ([], rest, ap (λ first. first ∷ rest) (sym is_one))
   split_at thing (one ∷ rest) (inr is_in) =
-      let parts : (before : List Thing) × (behind : List Thing) × (rest ≡ before ++ thing ∷ behind) = split_at thing rest is_in in
+      let parts : (before : List Thing) × (after : List Thing) × (rest ≡ before ++ thing ∷ after) = split_at thing rest is_in in
       (one ∷ parts.0, parts.1, ap (λ more. one ∷ more) parts.2)
 
-  in_the_rest : (before behind : List Thing) (thing other : Thing) → IsIn other (before ++ thing ∷ behind)
-      → (other ≡ thing → ⊥) → IsIn other (before ++ behind)
-  in_the_rest [] behind thing other (inl is_it) differs = absurd (differs is_it)
-  in_the_rest [] behind thing other (inr is_in) differs = is_in
-  in_the_rest (one ∷ before) behind thing other (inl is_it) differs = inl is_it
-  in_the_rest (one ∷ before) behind thing other (inr is_in) differs = inr (in_the_rest before behind thing other is_in differs)
+  in_the_rest : (before after : List Thing) (thing other : Thing) → IsIn other (before ++ thing ∷ after)
+      → (other ≡ thing → ⊥) → IsIn other (before ++ after)
+  in_the_rest [] after thing other (inl is_it) differs = absurd (differs is_it)
+  in_the_rest [] after thing other (inr is_in) differs = is_in
+  in_the_rest (one ∷ before) after thing other (inl is_it) differs = inl is_it
+  in_the_rest (one ∷ before) after thing other (inr is_in) differs = inr (in_the_rest before after thing other is_in differs)
 
   pub distinct_are_no_more : (some all : List Thing) → AreDistinct some
       → ((thing : Thing) → IsIn thing some → IsIn thing all) → length some ≤ length all
   distinct_are_no_more [] all distinct among = omega arith
   distinct_are_no_more (one ∷ rest) all distinct among =
-      let parts : (before : List Thing) × (behind : List Thing) × (all ≡ before ++ one ∷ behind) = split_at one all (among one (inl refl)) in
+      let parts : (before : List Thing) × (after : List Thing) × (all ≡ before ++ one ∷ after) = split_at one all (among one (inl refl)) in
       let fewer : length rest ≤ length (parts.0 ++ parts.1) =
       distinct_are_no_more rest (parts.0 ++ parts.1) distinct.1
       (λ thing is_in. in_the_rest parts.0 parts.1 one thing (subst (λ whole. IsIn thing whole) parts.2 (among thing (inr is_in)))

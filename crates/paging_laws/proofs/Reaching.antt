@@ -3,7 +3,7 @@ use Rattle.std.proofs.Common.{◌≡◌, ℕ, zero, suc, ◌+◌, ◌-◌, ◌*�
 use Rattle.std.proofs.lemmas.Nat.{shr-shr}
 use Rattle.paging_model.specs.Memory.{Memory}
 use Rattle.paging_model.specs.LinearAddress.{span}
-use Rattle.paging_model.specs.Entries.{joined, root_bits}
+use Rattle.paging_model.specs.Entries.{joined_bits, root_bits}
 use Rattle.paging_model.specs.Walking.{entry_read, top_level}
 use Rattle.paging_model.specs.TableUses.{Reaches, at_root, below, IsUse}
 use Rattle.paging_model.specs.declared.registers.Settings.{Settings}
@@ -15,36 +15,36 @@ use Rattle.paging_laws.specs.ServedAddresses.{IsServedBy}
 -- how a walk came to a table: it begins there, or an entry of the table above references it
 pub data Arrival (memory : Memory) (settings : Settings) (root x level table : ℕ) (bits : Bits) : Type 0 where
   begins : level ≡ top_level settings → table ≡ root → bits ≡ root_bits → Arrival memory settings root x level table bits
-  referenced : (upper : ℕ) (above own : Bits) → Reaches memory settings root x (suc level) upper above
-      → entry_read memory settings (suc level) upper x ≡ Some (entry.Table table own)
-      → bits ≡ joined above own → Arrival memory settings root x level table bits
+  referenced : (upper : ℕ) (above own : Bits) → Reaches memory settings root (suc level) x upper above
+      → entry_read memory settings (suc level) x upper ≡ Some (entry.Table table own)
+      → bits ≡ joined_bits above own → Arrival memory settings root x level table bits
 
 -- what one entry references is one table, with one join of bits
 same_reference : (memory : Memory) (settings : Settings) (x level upper upper' one other : ℕ) (above above' own own' bits more : Bits)
     → (upper ≡ upper') × (above ≡ above')
-    → entry_read memory settings level upper x ≡ Some (entry.Table one own) → bits ≡ joined above own
-    → entry_read memory settings level upper' x ≡ Some (entry.Table other own') → more ≡ joined above' own'
+    → entry_read memory settings level x upper ≡ Some (entry.Table one own) → bits ≡ joined_bits above own
+    → entry_read memory settings level x upper' ≡ Some (entry.Table other own') → more ≡ joined_bits above' own'
     → (one ≡ other) × (bits ≡ more)
 same_reference memory settings x level upper upper' one other above above' own own' bits more same read is read' is' =
     let entries : Some (entry.Table one own) ≡ Some (entry.Table other own') =
-    sym read ∙ (ap (λ table. entry_read memory settings level table x) same.0 ∙ read') in
+    sym read ∙ (ap (λ table. entry_read memory settings level x table) same.0 ∙ read') in
     let tables : one ≡ other = cc in
     let owns : own ≡ own' = cc in
-    (tables, is ∙ (ap (λ it. joined it own) same.1 ∙ (ap (joined above') owns ∙ sym is')))
+    (tables, is ∙ (ap (λ it. joined_bits it own) same.1 ∙ (ap (joined_bits above') owns ∙ sym is')))
 
 module _ {memory : Memory} {settings : Settings} {root x : ℕ} where
-  pub arrival : {level table : ℕ} {bits : Bits} → Reaches memory settings root x level table bits → Arrival memory settings root x level table bits
+  pub arrival : {level table : ℕ} {bits : Bits} → Reaches memory settings root level x table bits → Arrival memory settings root x level table bits
   arrival at_root = begins refl refl refl
   arrival (below {table = upper} {above = above} {bits = own} reached read) = referenced upper above own reached read refl
 
   -- no level is above the top
-  pub Reaches-level : {level table : ℕ} {bits : Bits} → Reaches memory settings root x level table bits → level ≤ top_level settings
+  pub Reaches-level : {level table : ℕ} {bits : Bits} → Reaches memory settings root level x table bits → level ≤ top_level settings
   Reaches-level at_root = omega arith
   Reaches-level (below reached read) = let upper = Reaches-level reached in omega arith
 
   -- the walk comes to one table of a level at most, with one join of bits; by the number of levels above it
   same_arrival : (higher level one other : ℕ) (bits more : Bits) → level + higher ≡ top_level settings
-      → Reaches memory settings root x level one bits → Reaches memory settings root x level other more → (one ≡ other) × (bits ≡ more)
+      → Reaches memory settings root level x one bits → Reaches memory settings root level x other more → (one ≡ other) × (bits ≡ more)
   same_arrival zero level one other bits more top first second =
       elim (arrival first) [
         | begins at_top table own ↦ elim (arrival second) [
@@ -65,7 +65,7 @@ module _ {memory : Memory} {settings : Settings} {root x : ℕ} where
       ]
 
   pub Reaches-one : (level one other : ℕ) (bits more : Bits)
-      → Reaches memory settings root x level one bits → Reaches memory settings root x level other more → (one ≡ other) × (bits ≡ more)
+      → Reaches memory settings root level x one bits → Reaches memory settings root level x other more → (one ≡ other) × (bits ≡ more)
   Reaches-one level one other bits more first second =
       let least = Reaches-level first in
       same_arrival (top_level settings - level) level one other bits more (omega arith) first second
@@ -78,8 +78,8 @@ same_span_above level x y some same =
 
 module _ {memory : Memory} {settings : Settings} {root x y : ℕ} where
   -- addresses in the range of one entry come to one table below it
-  pub Reaches-same_span : {level table : ℕ} {bits : Bits} → Reaches memory settings root x level table bits
-      → x / span (level + 1) ≡ y / span (level + 1) → Reaches memory settings root y level table bits
+  pub Reaches-same_span : {level table : ℕ} {bits : Bits} → Reaches memory settings root level x table bits
+      → x / span (level + 1) ≡ y / span (level + 1) → Reaches memory settings root level y table bits
   Reaches-same_span at_root same = at_root
   Reaches-same_span (below {level = level} {table = table} reached read) same =
       let next : level + 1 ≡ suc level = omega arith in
@@ -89,7 +89,7 @@ module _ {memory : Memory} {settings : Settings} {root x y : ℕ} where
 
   -- the top table serves every address
   pub Reaches-top : {level table : ℕ} {bits : Bits} → level ≡ top_level settings
-      → Reaches memory settings root x level table bits → Reaches memory settings root y level table bits
+      → Reaches memory settings root level x table bits → Reaches memory settings root level y table bits
   Reaches-top {level = level} {table = table} {bits = bits} top reached =
       elim (arrival reached) [
         | begins at_top is_root is_own ↦ rw (at_top, is_root, is_own) at_root
@@ -97,7 +97,7 @@ module _ {memory : Memory} {settings : Settings} {root x y : ℕ} where
       ]
 
 pub served_by_use : {memory : Memory} {settings : Settings} {root x : ℕ} (table : TableUse) → IsUse memory settings root table
-    → IsServedBy settings table x → Reaches memory settings root x table.level table.frame table.bits
+    → IsServedBy settings table x → Reaches memory settings root table.level x table.frame table.bits
 served_by_use table is_use (inl top) = Reaches-top top is_use.reached
 served_by_use table is_use (inr same) = Reaches-same_span is_use.reached (sym same)
 
@@ -112,6 +112,6 @@ pub use_is_one : {memory : Memory} {settings : Settings} {root : ℕ} (one other
     → IsUse memory settings root one → IsUse memory settings root other → one.level ≡ other.level → one.prefix ≡ other.prefix → one ≡ other
 unfolding use_of
 use_is_one {memory = memory} {settings = settings} {root = root} one other is_one is_other level prefix =
-    let reached : Reaches memory settings root other.prefix other.level one.frame one.bits = rw (← level, ← prefix) is_one.reached in
+    let reached : Reaches memory settings root other.level other.prefix one.frame one.bits = rw (← level, ← prefix) is_one.reached in
     let same = Reaches-one other.level one.frame other.frame one.bits other.bits reached is_other.reached in
     same_use one.level other.level one.prefix other.prefix one.frame other.frame one.bits other.bits level prefix same.0 same.1

@@ -2,10 +2,10 @@
 use Rattle.std.proofs.Common.{◌≡◌, ℕ, zero, suc, Option, Some, None, refl, ap, ◌∙◌}
 use Rattle.std.specs.Prelude.{option_map}
 use Rattle.paging_model.specs.Memory.{Memory, entry_at}
-use Rattle.paging_model.specs.Entries.{entry_of, joined, root_bits}
+use Rattle.paging_model.specs.Entries.{entry_of, joined_bits, root_bits}
 use Rattle.paging_model.specs.Walking.{walk, walk_from, at_value, at_entry, entry_address, entry_read, top_level}
 use Rattle.paging_model.specs.TableUses.{Reaches, at_root, below}
-use Rattle.paging_model.specs.Translations.{protected, protected_of}
+use Rattle.paging_model.specs.Translations.{raw_target, raw_target_of}
 use Rattle.paging_model.specs.declared.registers.Settings.{Settings}
 use Rattle.paging_model.specs.declared.entries.Bits.{Bits}
 use Rattle.paging_model.specs.declared.entries.Entry.{Entry}
@@ -15,7 +15,7 @@ use Rattle.paging_laws.specs.ReadEntries.{ReadAlike}
 
 -- two walks from an entry down are equal where the walks from the table that it references are
 same_at_entry : (one other : ℕ → Bits → Walk) (level x : ℕ) (above : Bits) (meaning : Entry)
-    → ((frame : ℕ) (bits : Bits) → meaning ≡ entry.Table frame bits → one frame (joined above bits) ≡ other frame (joined above bits))
+    → ((frame : ℕ) (bits : Bits) → meaning ≡ entry.Table frame bits → one frame (joined_bits above bits) ≡ other frame (joined_bits above bits))
     → at_entry one level x above meaning ≡ at_entry other level x above meaning
 same_at_entry one other level x above entry.Absent same = refl
 same_at_entry one other level x above entry.Reserved same = refl
@@ -24,7 +24,7 @@ same_at_entry one other level x above (entry.Leaf frame bits key global) same = 
 
 same_at_value : (one other : ℕ → Bits → Walk) (settings : Settings) (level x : ℕ) (above : Bits) (value : Option ℕ)
     → ((number frame : ℕ) (bits : Bits) → value ≡ Some number → entry_of level settings number ≡ entry.Table frame bits
-    → one frame (joined above bits) ≡ other frame (joined above bits))
+    → one frame (joined_bits above bits) ≡ other frame (joined_bits above bits))
     → at_value one settings level x above value ≡ at_value other settings level x above value
 same_at_value one other settings level x above None same = refl
 same_at_value one other settings level x above (Some number) same =
@@ -32,29 +32,29 @@ same_at_value one other settings level x above (Some number) same =
 
 module _ (one other : Memory) (settings : Settings) (root x : ℕ) (alike : ReadAlike one other settings root x) where
   -- from each table that the walk comes to
-  pub walk_from-alike : (level table : ℕ) (above : Bits) → Reaches one settings root x level table above
-      → walk_from one settings x level table above ≡ walk_from other settings x level table above
+  pub walk_from-alike : (level table : ℕ) (above : Bits) → Reaches one settings root level x table above
+      → walk_from one settings level x table above ≡ walk_from other settings level x table above
   unfolding walk_from
   walk_from-alike zero table above reached = refl
   walk_from-alike (suc lower) table above reached =
-      same_at_value (λ frame bits. walk_from one settings x lower frame bits) (λ frame bits. walk_from other settings x lower frame bits)
-      settings (suc lower) x above (entry_at one (entry_address (suc lower) table x))
+      same_at_value (λ frame bits. walk_from one settings lower x frame bits) (λ frame bits. walk_from other settings lower x frame bits)
+      settings (suc lower) x above (entry_at one (entry_address (suc lower) x table))
       (λ number frame bits was_read means.
-      let read : entry_read one settings (suc lower) table x ≡ Some (entry.Table frame bits) = rw was_read (ap Some means) in
-      walk_from-alike lower frame (joined above bits) (below reached read))
-      ∙ ap (at_value (λ frame bits. walk_from other settings x lower frame bits) settings (suc lower) x above) (alike (suc lower) table above reached)
+      let read : entry_read one settings (suc lower) x table ≡ Some (entry.Table frame bits) = rw was_read (ap Some means) in
+      walk_from-alike lower frame (joined_bits above bits) (below reached read))
+      ∙ ap (at_value (λ frame bits. walk_from other settings lower x frame bits) settings (suc lower) x above) (alike (suc lower) table above reached)
 
   pub walk-alike : walk one settings root x ≡ walk other settings root x
   unfolding walk
   walk-alike = walk_from-alike (top_level settings) root root_bits at_root
 
-  pub protected-alike : protected one settings root x ≡ protected other settings root x
-  protected-alike = ap protected_of walk-alike
+  pub raw_target-alike : raw_target one settings root x ≡ raw_target other settings root x
+  raw_target-alike = ap raw_target_of walk-alike
 
 -- an entry that references a table is read, and means that
 goes_on_at_value : (go : ℕ → Bits → Walk) (settings : Settings) (level x : ℕ) (above : Bits) (value : Option ℕ) (frame : ℕ) (bits : Bits)
     → option_map (λ number. entry_of level settings number) value ≡ Some (entry.Table frame bits)
-    → at_value go settings level x above value ≡ go frame (joined above bits)
+    → at_value go settings level x above value ≡ go frame (joined_bits above bits)
 goes_on_at_value go settings level x above None frame bits means = absurd cc
 goes_on_at_value go settings level x above (Some number) frame bits means =
     let meaning : entry_of level settings number ≡ entry.Table frame bits = cc in
@@ -62,10 +62,10 @@ goes_on_at_value go settings level x above (Some number) frame bits means =
 
 -- the walk goes on from each table that it comes to, with the bits that were joined above it
 pub walk-reached : {memory : Memory} {settings : Settings} {root x level table : ℕ} {above : Bits}
-    → Reaches memory settings root x level table above → walk memory settings root x ≡ walk_from memory settings x level table above
+    → Reaches memory settings root level x table above → walk memory settings root x ≡ walk_from memory settings level x table above
 unfolding walk walk_from
 walk-reached at_root = refl
 walk-reached {memory = memory} {settings = settings} {x = x} (below {level = level} {table = table} {frame = frame} {above = above} {bits = bits} reached read) =
     walk-reached reached
-    ∙ goes_on_at_value (λ frame bits. walk_from memory settings x level frame bits) settings (suc level) x above
-    (entry_at memory (entry_address (suc level) table x)) frame bits read
+    ∙ goes_on_at_value (λ frame bits. walk_from memory settings level x frame bits) settings (suc level) x above
+    (entry_at memory (entry_address (suc level) x table)) frame bits read

@@ -6,7 +6,7 @@ use Rattle.std.proofs.Math.Nat.{mul-mod_left, div-mul-le_self}
 use Rattle.std.proofs.lemmas.Nat.{shr-shr, shl-shr, div-add-mod'}
 use Rattle.paging_model.specs.Memory.{Memory, entry_at}
 use Rattle.paging_model.specs.LinearAddress.{span, is_canonical}
-use Rattle.paging_model.specs.Entries.{entry_of, page_frame, bits_of, key_of, is_global}
+use Rattle.paging_model.specs.Entries.{entry_of, page_frame, bits_of, protection_key, is_global}
 use Rattle.paging_model.specs.Walking.{entry_address, top_level}
 use Rattle.paging_model.specs.TableUses.{Reaches, IsPrefix, Serves, IsUse}
 use Rattle.paging_model.specs.declared.registers.Settings.{Settings}
@@ -26,7 +26,7 @@ never_a_table false false page table key bits own global same = cc
 lowest_maps_pages : (settings : Settings) (value table : ℕ) (own : Bits) → entry_of 1 settings value ≡ entry.Table table own → ⊥
 unfolding entry_of
 lowest_maps_pages settings value table own same =
-    never_a_table _ _ (page_frame 1 value) table (key_of value) (bits_of value) own (is_global value) same
+    never_a_table _ _ (page_frame 1 value) table (protection_key value) (bits_of value) own (is_global value) same
 
 none_below_the_lowest : (settings : Settings) (value : Option ℕ) (table : ℕ) (own : Bits)
     → option_map (λ number. entry_of 1 settings number) value ≡ Some (entry.Table table own) → ⊥
@@ -43,11 +43,11 @@ module _ {memory : Memory} {settings : Settings} {root x : ℕ} where
   arrival-some : (level : ℕ) {table : ℕ} {bits : Bits} → Arrival memory settings root x level table bits → 1 ≤ level
   arrival-some zero (begins top table bits) = let some = some_levels settings.la57 in omega arith
   arrival-some zero (referenced upper above own reached read bits) =
-      absurd (none_below_the_lowest settings (entry_at memory (entry_address 1 upper x)) _ own read)
+      absurd (none_below_the_lowest settings (entry_at memory (entry_address 1 x upper)) _ own read)
   arrival-some (suc level) came = omega arith
 
   -- no table has entries of level 0
-  pub Reaches-some : {level table : ℕ} {bits : Bits} → Reaches memory settings root x level table bits → 1 ≤ level
+  pub Reaches-some : {level table : ℕ} {bits : Bits} → Reaches memory settings root level x table bits → 1 ≤ level
   Reaches-some reached = arrival-some _ (arrival reached)
 
 -- the bits above those that are rounded off
@@ -88,7 +88,7 @@ first_of-prefix settings level x within below canonical = record {
 module _ {memory : Memory} {settings : Settings} {root : ℕ} where
   -- each table that the walk of a canonical address comes to has a use that serves the address
   pub use_for : (x level table : ℕ) (bits : Bits) → x < 2 ^ 64 → IsTrue (is_canonical settings.la57 x)
-      → Reaches memory settings root x level table bits → UseFor memory settings root x level table bits
+      → Reaches memory settings root level x table bits → UseFor memory settings root level x table bits
   use_for x level table bits below canonical reached =
       elim (cases_lt level (top_level settings)) [
         | inl less ↦ record {

@@ -27,7 +27,7 @@ pub record IsMappedAlike (memory : Memory) (settings : Settings) (root x y : ℕ
   pub global : other.global ≡ page.global
 
 -- a leaf of a level that serves x
-pub record LeafFor (memory : Memory) (settings : Settings) (root x level : ℕ) : Type 0 where
+pub record LeafFor (memory : Memory) (settings : Settings) (root level x : ℕ) : Type 0 where
   pub leaf : Leaf
   pub is_leaf : IsLeaf memory settings root leaf
   pub served : AreInOneRange leaf.level x leaf.prefix

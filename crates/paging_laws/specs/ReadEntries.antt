@@ -9,5 +9,5 @@ use Rattle.paging_model.specs.declared.entries.Bits.{Bits}
 -- each entry that the walk of x reads in the one memory is the same in the other
 abbrev pub ReadAlike : Memory → Memory → Settings → ℕ → ℕ → Type 0
 ReadAlike one other settings root x =
-    (level table : ℕ) (above : Bits) → Reaches one settings root x level table above
-    → entry_at one (entry_address level table x) ≡ entry_at other (entry_address level table x)
+    (level table : ℕ) (above : Bits) → Reaches one settings root level x table above
+    → entry_at one (entry_address level x table) ≡ entry_at other (entry_address level x table)

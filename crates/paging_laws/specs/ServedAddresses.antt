@@ -14,7 +14,7 @@ IsServedBy settings table x =
     (table.level ≡ top_level settings) ⊎ (x / span (table.level + 1) ≡ table.prefix / span (table.level + 1))
 
 -- a use that serves x, of a table of a level at a frame with these bits joined above it
-pub record UseFor (memory : Memory) (settings : Settings) (root x level frame : ℕ) (bits : Bits) : Type 0 where
+pub record UseFor (memory : Memory) (settings : Settings) (root level x frame : ℕ) (bits : Bits) : Type 0 where
   pub table : TableUse
   pub is_use : IsUse memory settings root table
   pub served : IsServedBy settings table x

@@ -20,13 +20,15 @@ pub fn leaf_maps_its_range()
 /// Each mapped page of a canonical address has a leaf that serves the address.
 pub fn each_mapped_page_has_a_leaf()
     ensures { (memory : Memory) (settings : Settings) (root x : ℕ) (page : Page) →
-        x < 2 ^ 64 → IsTrue (is_canonical settings.la57 x) → walk memory settings root x ≡ Mapped page
-        → LeafFor memory settings root x page.level }
+        x < 2 ^ 64 → IsTrue (is_canonical settings.la57 x)
+        → walk memory settings root x ≡ Mapped page
+        → LeafFor memory settings root page.level x }
 {}
 
 /// One leaf at most serves an address.
 pub fn address_has_one_leaf()
     ensures { (memory : Memory) (settings : Settings) (root x : ℕ) (one other : Leaf) →
         IsLeaf memory settings root one → IsLeaf memory settings root other
-        → AreInOneRange one.level x one.prefix → AreInOneRange other.level x other.prefix → one ≡ other }
+        → AreInOneRange one.level x one.prefix → AreInOneRange other.level x other.prefix
+        → one ≡ other }
 {}

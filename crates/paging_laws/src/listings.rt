@@ -23,7 +23,7 @@ pub fn space_has_one_list_of_regions()
         AreRegions memory settings root one → AreRegions memory settings root other → one ≡ other }
 {}
 
-/// Two stretches that make one may be told as that one.
+/// Two stretches that make one map each page as that one does.
 pub fn stretches_that_make_one_map_as_one()
     ensures areas { MapAsOne ℕ }
     ensures regions { MapAsOne Protection }

@@ -1,47 +1,23 @@
--- Whether an access to a mapped page is permitted: one rule a column, each with its accesses.
+-- Whether an access to a mapped page is permitted: the rules that refuse accesses, each a formula, and their order.
 -- SDM 3A, "Determination of Access Rights" and "Protection Keys".
-use Rattle.std.specs.Prelude.{ℕ, ◌+◌, ◌*◌, ◌&&◌, ◌||◌, not, Bool, false, Option, Some, None, if◌then◌else◌}
+use Rattle.std.specs.Prelude.{ℕ, ◌+◌, ◌*◌, ◌&&◌, ◌||◌, not, Bool, false, Option, Some, None, List, [], ◌∷◌, find, if◌then◌else◌}
+use Rattle.std.specs.List.{list_any}
+use Rattle.paging_model.specs.AccessKinds.{is_user, is_supervisor, is_implicit, is_write, is_fetch, is_data}
 use Rattle.paging_model.specs.BitRanges.{bit}
 use Rattle.paging_model.specs.Registers.{wp, smep, smap, pke, pks}
 use Rattle.paging_model.specs.declared.registers.Regs.{Regs}
 use Rattle.paging_model.specs.declared.entries.Bits.{Bits}
 use Rattle.paging_model.specs.declared.access.Access.{Access}
-use Rattle.paging_model.specs.declared.access.Access.TheVariants.{Ur, Uw, Ux, Sr, Sw, Sx, Ir, Iw}
 use Rattle.paging_model.specs.declared.access.Rule.{Rule}
-use Rattle.paging_model.specs.declared.access.Rule.TheVariants as rule
+use Rattle.paging_model.specs.declared.access.Rule.TheVariants.{User, Smep, Smap, Write, Xd, Key}
 
--- a user access to a supervisor page
-abbrev pub user_refuses : Bits → Access → Bool
-user_refuses bits Ur = not bits.user
-user_refuses bits Uw = not bits.user
-user_refuses bits Ux = not bits.user
-user_refuses bits _ = false
+-- supervisor data accesses go by SMAP: while it is on, explicit ones while AC is 0, implicit ones always
+abbrev pub smap_applies : Regs → Access → Bool
+smap_applies regs access = smap regs && (is_implicit access || not regs.ac)
 
--- a supervisor fetch from a user page
-abbrev pub smep_refuses : Regs → Bits → Access → Bool
-smep_refuses regs bits Sx = bits.user && smep regs
-smep_refuses regs bits _ = false
-
--- a supervisor data access to a user page; explicit ones pass while AC is 1, implicit ones never do
-abbrev pub smap_refuses : Regs → Bits → Access → Bool
-smap_refuses regs bits Sr = bits.user && smap regs && not regs.ac
-smap_refuses regs bits Sw = bits.user && smap regs && not regs.ac
-smap_refuses regs bits Ir = bits.user && smap regs
-smap_refuses regs bits Iw = bits.user && smap regs
-smap_refuses regs bits _ = false
-
--- a write to a page without R/W; supervisor writes pass while WP is 0
-abbrev pub write_refuses : Regs → Bits → Access → Bool
-write_refuses regs bits Uw = not bits.write
-write_refuses regs bits Sw = not bits.write && wp regs
-write_refuses regs bits Iw = not bits.write && wp regs
-write_refuses regs bits _ = false
-
--- a fetch from a page with XD
-abbrev pub xd_refuses : Bits → Access → Bool
-xd_refuses bits Ux = bits.xd
-xd_refuses bits Sx = bits.xd
-xd_refuses bits _ = false
+-- writes go by R/W and by WD: the user's always, the supervisor's while WP is 1
+abbrev pub wp_applies : Regs → Access → Bool
+wp_applies regs access = is_user access || wp regs
 
 -- the register that holds the rights of a page's protection key: PKRU of user pages and PKRS of supervisor pages, where
 -- they are enabled
@@ -59,30 +35,50 @@ abbrev pub write_disable : Option ℕ → ℕ → Bool
 write_disable (Some register) key = bit register (2 * key + 1)
 write_disable None key = false
 
--- a data access against AD, or a write against WD; supervisor writes pass WD while WP is 0
-abbrev pub key_refuses : Regs → Bits → ℕ → Access → Bool
-key_refuses regs bits key Ux = false
-key_refuses regs bits key Sx = false
-key_refuses regs bits key Uw =
-    access_disable (key_register regs bits) key || write_disable (key_register regs bits) key
-key_refuses regs bits key Sw =
-    access_disable (key_register regs bits) key || (write_disable (key_register regs bits) key && wp regs)
-key_refuses regs bits key Iw =
-    access_disable (key_register regs bits) key || (write_disable (key_register regs bits) key && wp regs)
-key_refuses regs bits key _ = access_disable (key_register regs bits) key
+-- a user access to a supervisor page
+abbrev pub user_refuses : Access → Bits → Bool
+user_refuses access bits = is_user access && not bits.user
+
+-- a supervisor fetch from a user page
+abbrev pub smep_refuses : Regs → Access → Bits → Bool
+smep_refuses regs access bits = is_supervisor access && is_fetch access && bits.user && smep regs
+
+-- a supervisor data access to a user page
+abbrev pub smap_refuses : Regs → Access → Bits → Bool
+smap_refuses regs access bits = is_supervisor access && is_data access && bits.user && smap_applies regs access
+
+-- a write to a page without R/W
+abbrev pub write_refuses : Regs → Access → Bits → Bool
+write_refuses regs access bits = is_write access && not bits.write && wp_applies regs access
+
+-- a fetch from a page with XD
+abbrev pub xd_refuses : Access → Bits → Bool
+xd_refuses access bits = is_fetch access && bits.xd
+
+-- a data access against AD of the page's key, or a write against its WD
+abbrev pub key_refuses : Regs → Access → Bits → ℕ → Bool
+key_refuses regs access bits key =
+    is_data access
+    && (access_disable (key_register regs bits) key
+    || (is_write access && write_disable (key_register regs bits) key && wp_applies regs access))
+
+-- whether a rule refuses the access
+abbrev pub refuses : Regs → Access → Bits → ℕ → Rule → Bool
+refuses regs access bits key User = user_refuses access bits
+refuses regs access bits key Smep = smep_refuses regs access bits
+refuses regs access bits key Smap = smap_refuses regs access bits
+refuses regs access bits key Write = write_refuses regs access bits
+refuses regs access bits key Xd = xd_refuses access bits
+refuses regs access bits key Key = key_refuses regs access bits key
+
+-- the rules in their order
+abbrev pub rules : List Rule
+rules = User ∷ Smep ∷ Smap ∷ Write ∷ Xd ∷ Key ∷ []
 
 -- no rule refuses the access
 unfoldable pub is_granted : Regs → Access → Bits → ℕ → Bool
-is_granted regs access bits key =
-    not (user_refuses bits access || smep_refuses regs bits access || smap_refuses regs bits access
-    || write_refuses regs bits access || xd_refuses bits access || key_refuses regs bits key access)
+is_granted regs access bits key = not (list_any (refuses regs access bits key) rules)
 
 -- the first rule that refuses the access
 unfoldable pub denial_of : Regs → Access → Bits → ℕ → Option Rule
-denial_of regs access bits key =
-    if user_refuses bits access then Some rule.User else
-    (if smep_refuses regs bits access then Some rule.Smep else
-    (if smap_refuses regs bits access then Some rule.Smap else
-    (if write_refuses regs bits access then Some rule.Write else
-    (if xd_refuses bits access then Some rule.Xd else
-    (if key_refuses regs bits key access then Some rule.Key else None)))))
+denial_of regs access bits key = find (refuses regs access bits key) rules

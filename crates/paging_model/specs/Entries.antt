@@ -48,8 +48,8 @@ abbrev pub bits_of : ℕ → Bits
 bits_of value = record { write = bit value 1; user = bit value 2; xd = bit value 63 }
 
 -- the protection key, bits 62:59
-abbrev pub key_of : ℕ → ℕ
-key_of value = field value 62 59
+abbrev pub protection_key : ℕ → ℕ
+protection_key value = field value 62 59
 
 -- G, bit 8
 abbrev pub is_global : ℕ → Bool
@@ -60,13 +60,13 @@ unfoldable pub entry_of : ℕ → Settings → ℕ → Entry
 entry_of level settings value =
     if not (is_present value) then entry.Absent else
     (if is_reserved level settings value then entry.Reserved else
-    (if is_leaf level value then entry.Leaf (page_frame level value) (bits_of value) (key_of value) (is_global value) else
+    (if is_leaf level value then entry.Leaf (page_frame level value) (bits_of value) (protection_key value) (is_global value) else
     entry.Table (table_frame value) (bits_of value)))
 
 -- joining: write and user where both entries have them, execute-disable where one has it
 -- (SDM 3A, "Determination of Access Rights")
-abbrev pub joined : Bits → Bits → Bits
-joined above below =
+abbrev pub joined_bits : Bits → Bits → Bits
+joined_bits above below =
     record { write = above.write && below.write; user = above.user && below.user; xd = above.xd || below.xd }
 
 -- above the top table nothing is refused

@@ -5,6 +5,7 @@ pub mod RegisterRules
 pub mod LinearAddress
 pub mod Entries
 pub mod Walking
+pub mod AccessKinds
 pub mod AccessRights
 pub mod Pointers
 pub mod AccessSets

@@ -4,7 +4,7 @@ use Rattle.std.specs.Prelude.{◌≡◌, ℕ, ◌+◌, ◌-◌, ◌%◌, ◌^◌
 use Rattle.paging_model.specs.Memory.{Memory}
 use Rattle.paging_model.specs.Registers.{la57, root_of}
 use Rattle.paging_model.specs.LinearAddress.{is_canonical, IsPage}
-use Rattle.paging_model.specs.Translations.{Target, Protection, protected, present}
+use Rattle.paging_model.specs.Translations.{Target, Protection, raw_target, present_target}
 use Rattle.paging_model.specs.declared.registers.Machine.{Machine}
 use Rattle.paging_model.specs.declared.registers.Regs.{Regs}
 use Rattle.paging_model.specs.declared.registers.Settings.{Settings}
@@ -45,14 +45,14 @@ module _ {Kind : Type 0} where
   AreApart (one ∷ two ∷ rest) = (one.last < two.first) × (IsOneWith one two → ⊥) × AreApart (two ∷ rest)
 
   -- the page lies in the range
-  abbrev pub holds : Stretch Kind → ℕ → Bool
-  holds stretch page = nat_le stretch.first page && nat_le page stretch.last
+  abbrev pub has_page : Stretch Kind → ℕ → Bool
+  has_page stretch page = nat_le stretch.first page && nat_le page stretch.last
 
   -- what a list maps a page to
   abbrev pub target_in : List (Stretch Kind) → ℕ → Option (Target Kind)
   target_in [] page = None
   target_in (one ∷ rest) page =
-      if holds one page then Some (record { frame = one.frame + (page - one.first); kind = one.kind }) else target_in rest page
+      if has_page one page then Some (record { frame = one.frame + (page - one.first); kind = one.kind }) else target_in rest page
 
   -- the listing of what each page is mapped to
   pub record IsListing (five_levels : Bool) (target : ℕ → Option (Target Kind)) (list : List (Stretch Kind)) : Type 0 where
@@ -72,9 +72,9 @@ stretch_of_region region =
 -- the areas of a processor's space: by what its present registers and tables grant at each page
 abbrev pub AreAreas : Memory → Machine → Regs → List Area → Type 0
 AreAreas memory machine regs areas =
-    IsListing (la57 regs) (present memory machine regs (root_of regs machine)) (map stretch_of_area areas)
+    IsListing (la57 regs) (present_target memory machine regs (root_of regs machine)) (map stretch_of_area areas)
 
 -- the regions of a space: by the joined bits and the key of each page
 abbrev pub AreRegions : Memory → Settings → ℕ → List Region → Type 0
 AreRegions memory settings root regions =
-    IsListing settings.la57 (protected memory settings root) (map stretch_of_region regions)
+    IsListing settings.la57 (raw_target memory settings root) (map stretch_of_region regions)

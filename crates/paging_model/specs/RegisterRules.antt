@@ -35,14 +35,14 @@ check_of machine regs =
     (if cr3_is_reserved machine regs.cr3 then Err Cr3Reserved else Ok tt)))
 
 -- the registers with one of them changed; bit 63 of a value for CR3 isn't stored
-abbrev pub changed : RegChange → Regs → Regs
-changed (Cr0 value) regs = record regs { cr0 = value }
-changed (Cr3 value) regs = record regs { cr3 = field value 62 0 }
-changed (Cr4 value) regs = record regs { cr4 = value }
-changed (Efer value) regs = record regs { efer = value }
-changed (Ac value) regs = record regs { ac = value }
-changed (Pkru value) regs = record regs { pkru = value }
-changed (Pkrs value) regs = record regs { pkrs = value }
+abbrev pub with_change : RegChange → Regs → Regs
+with_change (Cr0 value) regs = record regs { cr0 = value }
+with_change (Cr3 value) regs = record regs { cr3 = field value 62 0 }
+with_change (Cr4 value) regs = record regs { cr4 = value }
+with_change (Efer value) regs = record regs { efer = value }
+with_change (Ac value) regs = record regs { ac = value }
+with_change (Pkru value) regs = record regs { pkru = value }
+with_change (Pkrs value) regs = record regs { pkrs = value }
 
 -- a value for CR4 has another LA57
 abbrev pub changes_la57 : ℕ → Regs → Bool
@@ -78,4 +78,4 @@ unless_refused (Err _) new old = old
 
 -- the registers after a change, or as they were where it is refused
 abbrev pub after_change : Machine → RegChange → Regs → Regs
-after_change machine change regs = unless_refused (change_of machine change regs) (changed change regs) regs
+after_change machine change regs = unless_refused (change_of machine change regs) (with_change change regs) regs

@@ -3,7 +3,7 @@
 use Rattle.std.specs.Prelude.{◌≡◌, ℕ, suc, ◌+◌, ◌%◌, ◌^◌, ◌<◌, ◌≤◌, ◌⊎◌, IsTrue, Some}
 use Rattle.paging_model.specs.Memory.{Memory}
 use Rattle.paging_model.specs.LinearAddress.{is_canonical, span}
-use Rattle.paging_model.specs.Entries.{joined, root_bits}
+use Rattle.paging_model.specs.Entries.{joined_bits, root_bits}
 use Rattle.paging_model.specs.Walking.{entry_read, top_level, walk}
 use Rattle.paging_model.specs.Counting.{MoreThan, AtMost}
 use Rattle.paging_model.specs.declared.registers.Settings.{Settings}
@@ -14,12 +14,12 @@ use Rattle.paging_model.specs.declared.walks.Walk.TheVariants.{Mapped}
 use Rattle.paging_model.specs.declared.spaces.TableUse.{TableUse}
 
 -- the walk of x comes to a table of a level, with these bits joined above it
-pub data Reaches (memory : Memory) (settings : Settings) (root x : ℕ) : ℕ → ℕ → Bits → Type 0 where
-  at_root : Reaches memory settings root x (top_level settings) root root_bits
-  below : {level table frame : ℕ} {above bits : Bits}
-      → Reaches memory settings root x (suc level) table above
-      → entry_read memory settings (suc level) table x ≡ Some (entry.Table frame bits)
-      → Reaches memory settings root x level frame (joined above bits)
+pub data Reaches (memory : Memory) (settings : Settings) (root : ℕ) : ℕ → ℕ → ℕ → Bits → Type 0 where
+  at_root : {x : ℕ} → Reaches memory settings root (top_level settings) x root root_bits
+  below : {level x table frame : ℕ} {above bits : Bits}
+      → Reaches memory settings root (suc level) x table above
+      → entry_read memory settings (suc level) x table ≡ Some (entry.Table frame bits)
+      → Reaches memory settings root level x frame (joined_bits above bits)
 
 -- the first address of a range of canonical addresses, as long as that of an entry of a level
 pub record IsPrefix (settings : Settings) (level prefix : ℕ) : Type 0 where
@@ -37,7 +37,7 @@ Serves settings level prefix =
 -- reached on two ways has two uses
 pub record IsUse (memory : Memory) (settings : Settings) (root : ℕ) (table : TableUse) : Type 0 where
   pub serves : Serves settings table.level table.prefix
-  pub reached : Reaches memory settings root table.prefix table.level table.frame table.bits
+  pub reached : Reaches memory settings root table.level table.prefix table.frame table.bits
 
 -- the level of a mapped page, and its first address
 pub record Leaf : Type 0 where

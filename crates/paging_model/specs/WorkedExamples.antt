@@ -6,7 +6,7 @@ use Rattle.paging_model.specs.Memory.{Memory, byte_in, number_at}
 use Rattle.paging_model.specs.Registers.{pcid_of, root_of}
 use Rattle.paging_model.specs.RegisterRules.{check_of, change_of, after_change}
 use Rattle.paging_model.specs.LinearAddress.{is_canonical, index}
-use Rattle.paging_model.specs.Entries.{entry_of, joined}
+use Rattle.paging_model.specs.Entries.{entry_of, joined_bits}
 use Rattle.paging_model.specs.Walking.{walk}
 use Rattle.paging_model.specs.AccessRights.{is_granted, denial_of}
 use Rattle.paging_model.specs.Pointers.{aim_of}
@@ -45,7 +45,7 @@ no_write = record { write = false; user = true; xd = false }
 -- the first extent that covers a byte decides, and two bytes make a number only where both are known
 pub record OfMemory : Type 0 where
   pub first_wins : byte_in (record { start = 4; bytes = 1 ∷ 2 ∷ [] } ∷ record { start = 5; bytes = 8 ∷ 9 ∷ [] } ∷ []) 5 ≡ Some 2
-  pub behind : byte_in (record { start = 4; bytes = 1 ∷ 2 ∷ [] } ∷ record { start = 5; bytes = 8 ∷ 9 ∷ [] } ∷ []) 6 ≡ Some 9
+  pub after : byte_in (record { start = 4; bytes = 1 ∷ 2 ∷ [] } ∷ record { start = 5; bytes = 8 ∷ 9 ∷ [] } ∷ []) 6 ≡ Some 9
   pub outside : byte_in (record { start = 4; bytes = 1 ∷ 2 ∷ [] } ∷ record { start = 5; bytes = 8 ∷ 9 ∷ [] } ∷ []) 7 ≡ None
   pub little : number_at (byte_in (record { start = 4; bytes = 1 ∷ 2 ∷ [] } ∷ [])) 2 4 ≡ Some 513
   pub unknown : number_at (byte_in (record { start = 4; bytes = 1 ∷ 2 ∷ [] } ∷ [])) 2 5 ≡ None
@@ -96,7 +96,7 @@ pub record OfEntries (settings : Settings) : Type 0 where
   pub execute_disable : entry_of 4 settings 0x8000000000002003 ≡ entry.Table 0x2000 (record { write = true; user = false; xd = true })
   pub without_gigabytes : entry_of 3 (record settings { big = false }) 0x400000e7 ≡ entry.Reserved
   pub without_nxe : entry_of 1 (record settings { nxe = false }) 0x8000000000005007 ≡ entry.Reserved
-  pub joins : joined (record { write = true; user = false; xd = false }) (record { write = false; user = true; xd = true }) ≡ record { write = false; user = false; xd = true }
+  pub joins : joined_bits (record { write = true; user = false; xd = false }) (record { write = false; user = true; xd = true }) ≡ record { write = false; user = false; xd = true }
 
 pub record OfWalks (settings : Settings) : Type 0 where
   pub mapped : walk small_memory settings 0x1000 0x1234 ≡ walked.Mapped (record { frame = 0x6000; level = 1; bits = no_write; key = 0; global = false })

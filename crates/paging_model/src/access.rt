@@ -21,7 +21,7 @@ pub enum Access {
     Iw,
 }
 
-/// A rule that refuses an access to a page that is mapped, in the order in which they are told.
+/// A rule that refuses an access to a mapped page. The first of them that does is the denial, in this order.
 #[derive(Clone, Copy, Debug, PartialEq, Eq)]
 pub enum Rule {
     /// A user access to a supervisor page.

@@ -1,7 +1,7 @@
 //! Sets of accesses.
 
-ghost use Rattle.std.specs.Prelude.{◌≡◌, ◌≢◌, ℕ, ◌<◌, ◌&&◌, not, false, true};
-ghost use Rattle.paging_model.specs.AccessSets.{has, number_of, place};
+ghost use Rattle.std.specs.Prelude.{◌≡◌, ◌≢◌, ℕ, ◌<◌, ◌&&◌, ◌||◌, not, false, true};
+ghost use Rattle.paging_model.specs.AccessSets.{has, set_number, access_bit};
 ghost use Rattle.paging_model.specs.declared.access.Access.{Access};
 
 use crate::access::Access;
@@ -46,7 +46,7 @@ impl Rights {
         ensures others { (other : Access) → other ≢ access → has result other ≡ has self.now other }
     {
         Rights {
-            number: self.number | 1 << place(access),
+            number: self.number | 1 << bit_index(access),
         }
     }
 
@@ -54,21 +54,23 @@ impl Rights {
     pub fn has(&self, access: Access) -> bool
         ensures { result ≡ has self.now access }
     {
-        (self.number >> place(access)) & 1 == 1
+        (self.number >> bit_index(access)) & 1 == 1
     }
 
     /// The number of the set. Sets with the same members have the same number.
     pub fn number(&self) -> u8
         ensures value { result ≡ self.now }
-        ensures sum { result ≡ number_of (has self.now) }
-        ensures only { (other : ℕ) → other < 256 → ((access : Access) → has other access ≡ has self.now access) → other ≡ result }
+        ensures sum { result ≡ set_number (has self.now) }
+        ensures only { (other : ℕ) → other < 256
+            → ((access : Access) → has other access ≡ has self.now access) → other ≡ result }
     {
         self.number
     }
 
     /// The accesses that are in this set and not in the other.
     pub fn minus(&self, other: &Rights) -> Rights
-        ensures { (access : Access) → has result access ≡ (has self.now access && not (has other.now access)) }
+        ensures { (access : Access) →
+            has result access ≡ (has self.now access && not (has other.now access)) }
     {
         Rights {
             number: self.number & !other.number,
@@ -77,17 +79,28 @@ impl Rights {
 
     /// The accesses that are in both sets.
     pub fn meet(&self, other: &Rights) -> Rights
-        ensures { (access : Access) → has result access ≡ (has self.now access && has other.now access) }
+        ensures { (access : Access) →
+            has result access ≡ (has self.now access && has other.now access) }
     {
         Rights {
             number: self.number & other.number,
         }
     }
+
+    /// The accesses that are in one of the sets, or in both.
+    pub fn join(&self, other: &Rights) -> Rights
+        ensures { (access : Access) →
+            has result access ≡ (has self.now access || has other.now access) }
+    {
+        Rights {
+            number: self.number | other.number,
+        }
+    }
 }
 
-// The place of an access in the number of a set.
-fn place(access: Access) -> u8
-    ensures value { result ≡ place access }
+/// The bit of an access in the number of a set.
+fn bit_index(access: Access) -> u8
+    ensures value { result ≡ access_bit access }
     ensures below { result < 8 }
 {
     access as u8

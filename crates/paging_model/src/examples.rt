@@ -29,13 +29,15 @@ pub fn changes()
 /// Entries of each level.
 #[tactic(auto, unfolding(crate::specs::Entries::entry_of, crate::specs::Entries::is_reserved))]
 pub fn entries()
-    ensures { (settings : Settings) → settings.m ≡ 40 → settings.big ≡ true → settings.la57 ≡ false → settings.nxe ≡ true → OfEntries settings }
+    ensures { (settings : Settings) → settings.m ≡ 40 → settings.big ≡ true
+        → settings.la57 ≡ false → settings.nxe ≡ true → OfEntries settings }
 {}
 
 /// Walks of small tables.
 #[tactic(auto, unfolding(crate::specs::Entries::entry_of, crate::specs::Entries::is_reserved, crate::specs::Walking::walk, crate::specs::Walking::walk_from, crate::specs::Memory::entry_at))]
 pub fn walks()
-    ensures { (settings : Settings) → settings.m ≡ 40 → settings.big ≡ true → settings.la57 ≡ false → settings.nxe ≡ true → OfWalks settings }
+    ensures { (settings : Settings) → settings.m ≡ 40 → settings.big ≡ true
+        → settings.la57 ≡ false → settings.nxe ≡ true → OfWalks settings }
 {}
 
 /// Accesses that are permitted or denied.

@@ -8,7 +8,7 @@
 
 pub mod access;
 pub mod access_sets;
-pub mod byte_lists;
+pub mod byte_strings;
 pub mod entries;
 pub mod examples;
 pub mod registers;

@@ -1,6 +1,6 @@
 //! The registers that paging goes by, and what they set.
 
-ghost use Rattle.std.specs.Prelude.{◌≤◌};
+ghost use Rattle.std.specs.Prelude.{◌≡◌, ◌≤◌};
 
 /// What a processor model fixes.
 #[derive(Clone, Copy, Debug, PartialEq, Eq)]
@@ -11,6 +11,19 @@ pub struct Machine {
     pub big: bool,
     ghost least: { 32 ≤ m },
     ghost most: { m ≤ 52 },
+}
+
+impl Machine {
+    ghost use Rattle.paging_model.specs.Registers.{machine_of};
+
+    /// The machine of a physical width in bits, with 1-GByte pages or without.
+    pub fn new(m: u8, big: bool) -> Machine
+        requires least { 32 ≤ m }
+        requires most { m ≤ 52 }
+        ensures { result ≡ machine_of m big }
+    {
+        Machine { m, big }
+    }
 }
 
 /// What the meaning of an entry and the length of a walk depend on.
@@ -43,6 +56,16 @@ pub struct Regs {
     /// The protection keys of supervisor pages.
     pub pkrs: u32,
 }
+
+/// A processor by its number.
+#[derive(Clone, Copy, Debug, PartialEq, Eq)]
+pub struct Processor {
+    pub number: u32,
+    pub regs: Regs,
+}
+
+/// The greatest number of processors.
+pub const PROCESSOR_LIMIT: usize = 64;
 
 /// A change of one register to a new value.
 #[derive(Clone, Copy, Debug, PartialEq, Eq)]

@@ -56,7 +56,7 @@ pub struct TableUse {
     pub bits: Bits,
 }
 
-/// Areas, by rising addresses.
+/// Areas, by ascending addresses.
 #[derive(Debug, Drop)]
 pub struct Areas {
     items: Vec<Area>,
@@ -72,14 +72,14 @@ impl Model for Areas {
 }
 
 impl Areas {
-    /// Takes the areas over.
+    /// Takes ownership of the areas.
     pub fn from_vec(items: Vec<Area>) -> Areas
         ensures { result ≡ items.items }
     {
         Areas { items }
     }
 
-    /// Lends the areas.
+    /// Borrows the areas.
     pub fn as_slice(&self) -> &[Area]
         ensures { result.now ≡ self.now }
     {

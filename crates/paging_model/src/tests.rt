@@ -2,7 +2,7 @@
 
 use crate::access::Access;
 use crate::access_sets::Rights;
-use crate::byte_lists::{Payload, Text};
+use crate::byte_strings::{Payload, Text};
 use std::test::Fail;
 
 #[test]

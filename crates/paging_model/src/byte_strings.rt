@@ -1,4 +1,4 @@
-//! Lists of bytes that contracts see as lists of numbers.
+//! Byte strings, which contracts see as lists of numbers: the payload of a write, and a line of output.
 
 ghost use Rattle.std.specs.Prelude.{◌≡◌, ◌≤◌, length};
 
@@ -21,7 +21,7 @@ impl Model for Payload {
 }
 
 impl Payload {
-    /// Takes the bytes over.
+    /// Takes ownership of the bytes.
     pub fn from_vec(items: Vec<u8>) -> Payload
         requires some { 1 ≤ length items.items }
         requires one_page { length items.items ≤ 4096 }
@@ -30,7 +30,7 @@ impl Payload {
         Payload { bytes: items }
     }
 
-    /// Lends the bytes.
+    /// Borrows the bytes.
     pub fn as_slice(&self) -> &[u8]
         ensures value { result.now ≡ self.now }
         ensures some { 1 ≤ length self.now }
@@ -55,14 +55,14 @@ impl Model for Text {
 }
 
 impl Text {
-    /// Takes the bytes over.
+    /// Takes ownership of the bytes.
     pub fn from_vec(items: Vec<u8>) -> Text
         ensures { result ≡ items.items }
     {
         Text { bytes: items }
     }
 
-    /// Lends the bytes.
+    /// Borrows the bytes.
     pub fn as_slice(&self) -> &[u8]
         ensures { result.now ≡ self.now }
     {
