@@ -61,7 +61,7 @@ spares_all false killed f h = refl
 spares_all true killed f h = absurd (let e : killed ≡ true = f refl in cc)
 
 -- what is spared since a moment isn't older than the horizon
-pub horizon-spared : {p : ℕ} {key : CacheKey} {moment history : History} → Spares p key moment history → horizon history p ≤ time moment
+pub horizon-spared : {p : ℕ} {key : CacheKey} {moment history : History} → Spares moment p key history → horizon history p ≤ time moment
 horizon-spared {p = p} {moment = moment} here = horizon-time moment p
 horizon-spared {p = p} {key = key} {moment = moment} (later {history = before} {known = known} happened spared is_known spares) =
     let lost : takes_all happened p (regs before p) ≡ false = ap (takes_all happened p) is_known ∙ spares_all (loses_all happened p known) (kills happened p known key) (takes_each happened p known key) spares in

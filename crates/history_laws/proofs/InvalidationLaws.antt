@@ -8,27 +8,27 @@ use Rattle.paging_model.specs.LinearAddress.{is_canonical, span}
 use Rattle.paging_model.specs.Registers.{la57, pcid_of, root_of}
 use Rattle.paging_model.specs.declared.registers.Machine.{Machine}
 use Rattle.paging_model.specs.declared.registers.Regs.{Regs}
-use Rattle.history_model.specs.History.{History, begun, next, memory, machine, regs, home, home_under, page_of}
+use Rattle.history_model.specs.History.{History, begun, next, memory, machine, regs, last_root, last_root_under, page_of}
 use Rattle.history_model.specs.Horizons.{takes_all}
-use Rattle.history_model.specs.Invalidations.{kills, covers, invlpg_kills}
-use Rattle.history_model.specs.CachedTranslations.{Held, MayHold, MayUse, kept, at_root, below, key_of}
+use Rattle.history_model.specs.Invalidations.{kills, key_covers, invlpg_kills}
+use Rattle.history_model.specs.CachedTranslations.{Held, MayHold, MayUse, kept, at_root, below, cache_key}
 use Rattle.history_model.specs.StaleTranslations.{IsStale}
 use Rattle.history_model.specs.declared.caches.Finding.{Finding}
 use Rattle.history_model.specs.declared.events.Event.{Event}
 use Rattle.history_model.specs.declared.events.Event.TheVariants as event
-use Rattle.history_laws.specs.Levels.{HasLevel}
+use Rattle.history_laws.specs.HeldLevels.{HasLevel}
 use Rattle.history_laws.proofs.LevelLaws.{held_has_level}
 use Rattle.history_laws.proofs.HorizonLaws.{takes_each}
 use Rattle.history_laws.proofs.WalkLaws.{some-same, Stands, stands_at_root, stands_below, present_when_it_stands, present_not_stale}
 
 -- an event removes each entry of a processor that it held for an address under a PCID
 pub record TakesEach (before : History) (happened : Event) (p c x : ℕ) : Type 0 where
-  pub takes : (known : Regs) (level : ℕ) (held : Held) → regs before p ≡ Some known → kills happened p known (key_of c x level held) ≡ true
+  pub takes : (known : Regs) (level : ℕ) (held : Held) → regs before p ≡ Some known → kills happened p known (cache_key c level x held) ≡ true
 
 -- then all that may be held there is made after it
-pub stands_anew : {p c x : ℕ} {before : History} {happened : Event} {level : ℕ} {held : Held} → TakesEach before happened p c x → MayHold p c x (next before happened) level held
+pub stands_anew : {p c x : ℕ} {before : History} {happened : Event} {level : ℕ} {held : Held} → TakesEach before happened p c x → MayHold (next before happened) p c level x held
     → Stands (memory (next before happened)) (machine (next before happened)) (regs (next before happened) p) c x level held
-stands_anew {before = before} each (kept {level = level} {held = held} {known = known} happened earlier is_known spares) =
+stands_anew {before = before} each (kept happened {level = level} {held = held} {known = known} earlier is_known spares) =
     let taken = each.takes known level held is_known in absurd (cc (taken, spares))
 stands_anew {p = p} {c = c} {x = x} {before = before} {happened = happened} each (at_root {level = level} {held = held} {known = known} is_known current top is_made) =
     stands_at_root (next before happened) p c x level held known is_known current top is_made
@@ -39,23 +39,23 @@ stands_anew {p = p} {c = c} {x = x} {before = before} {happened = happened} each
 equal_self : (n : ℕ) → (n == n) ≡ true
 equal_self n = grind (arith, nat_tests)
 
-home_under-now : (known : Regs) (now : Option Regs) (m : Machine) (c root : ℕ) (earlier : Option ℕ) → now ≡ Some known → c ≡ pcid_of known → home_under now m c earlier ≡ Some root → root ≡ root_of known m
-home_under-now known now m c root earlier is_known current h =
+last_root_under-now : (known : Regs) (now : Option Regs) (m : Machine) (c root : ℕ) (earlier : Option ℕ) → now ≡ Some known → c ≡ pcid_of known → last_root_under m now c earlier ≡ Some root → root ≡ root_of known m
+last_root_under-now known now m c root earlier is_known current h =
     let own : (pcid_of known == c) ≡ true = ap (λ n. pcid_of known == n) current ∙ equal_self (pcid_of known) in
-    let here : (if pcid_of known == c then Some (root_of known m) else earlier) ≡ Some root = sym (ap (λ one. home_under one m c earlier) is_known) ∙ h in
+    let here : (if pcid_of known == c then Some (root_of known m) else earlier) ≡ Some root = sym (ap (λ one. last_root_under m one c earlier) is_known) ∙ h in
     sym (some-same (root_of known m) root (sym (ap (λ (test : Bool). if test then Some (root_of known m) else earlier) own) ∙ here))
 
 -- the root that a processor had last in its current PCID is its present one
-pub home-now : (history : History) (p c root : ℕ) (known : Regs) → regs history p ≡ Some known → c ≡ pcid_of known → home history p c ≡ Some root → root ≡ root_of known (machine history)
-home-now (begun start) p c root known is_known current h = home_under-now known _ _ c root None is_known current h
-home-now (next before happened) p c root known is_known current h = home_under-now known _ _ c root (home before p c) is_known current h
+pub last_root-now : (history : History) (p c root : ℕ) (known : Regs) → regs history p ≡ Some known → c ≡ pcid_of known → last_root history p c ≡ Some root → root ≡ root_of known (machine history)
+last_root-now (begun start) p c root known is_known current h = last_root_under-now known _ start.machine c root None is_known current h
+last_root-now (next before happened) p c root known is_known current h = last_root_under-now known _ (machine before) c root (last_root before p c) is_known current h
 
 -- what stands isn't stale under the current PCID
 standing_not_stale : (history : History) (finding : Finding) (known : Regs) (stale : IsStale history finding) → regs history finding.cpu ≡ Some known → finding.pcid ≡ pcid_of known
     → Stands (memory history) (machine history) (regs history finding.cpu) stale.may_use.under finding.page stale.level stale.held → ⊥
 standing_not_stale history finding known stale is_known current stands =
     let same : known ≡ stale.known = some-same known stale.known (sym is_known ∙ stale.is_known) in
-    present_not_stale history finding stale (home-now history finding.cpu finding.pcid stale.root stale.known stale.is_known (current ∙ ap pcid_of same) stale.is_root)
+    present_not_stale history finding stale (last_root-now history finding.cpu finding.pcid stale.root stale.known stale.is_known (current ∙ ap pcid_of same) stale.is_root)
     (present_when_it_stands history finding.cpu stale.may_use.under finding.page stale.level stale.held stale.known stale.is_known stale.page.aligned stale.may_use.leaf stands)
 
 -- right after a processor lost everything, nothing is stale under its current PCID
@@ -63,7 +63,7 @@ pub lost_not_stale : (before : History) (happened : Event) (finding : Finding) (
     → regs (next before happened) finding.cpu ≡ Some known → finding.pcid ≡ pcid_of known → IsStale (next before happened) finding → ⊥
 lost_not_stale before happened finding known lost is_known current stale =
     let each : TakesEach before happened finding.cpu stale.may_use.under finding.page =
-    record { takes = λ known level held was_known. takes_each happened finding.cpu known (key_of stale.may_use.under finding.page level held) (sym (ap (takes_all happened finding.cpu) was_known) ∙ lost) } in
+    record { takes = λ known level held was_known. takes_each happened finding.cpu known (cache_key stale.may_use.under level finding.page held) (sym (ap (takes_all happened finding.cpu) was_known) ∙ lost) } in
     standing_not_stale (next before happened) finding known stale is_known current (stands_anew each stale.may_use.held_there)
 
 -- an entry serves the addresses of its prefix
@@ -89,21 +89,21 @@ invlpg_takes true true false global leaf h k (inr e) = let leaf_is = e.0 in rw (
 -- INVLPG removes the translations of the page of its address, of the current PCID or global, and each reference of a
 -- table of the current PCID
 invlpg-kills : (p c page address level : ℕ) (known : Regs) (held : Held) → is_canonical (la57 known) address ≡ true → page ≡ page_of address
-    → ((c == pcid_of known) ≡ true) ⊎ ((held.leaf ≡ true) × (held.global ≡ true)) → kills (event.Invlpg p address) p known (key_of c page level held) ≡ true
+    → ((c == pcid_of known) ≡ true) ⊎ ((held.leaf ≡ true) × (held.global ≡ true)) → kills (event.Invlpg p address) p known (cache_key c level page held) ≡ true
 unfolding kills
 invlpg-kills p c page address level known held canonical page_is serves =
     let same : page / span level ≡ address / span level = rw page_is (page_of-prefix level address) in
-    let covered : covers (key_of c page level held) address ≡ true = covers-same (span level) page address (pow_pos (12 + 9 * (level - 1))) same in
-    ap (λ own. own && invlpg_kills address known (key_of c page level held)) (equal_self p)
-    ∙ invlpg_takes (is_canonical (la57 known) address) (covers (key_of c page level held) address) (c == pcid_of known) held.global held.leaf canonical covered serves
+    let covered : key_covers (cache_key c level page held) address ≡ true = covers-same (span level) page address (pow_pos (12 + 9 * (level - 1))) same in
+    ap (λ own. own && invlpg_kills address known (cache_key c level page held)) (equal_self p)
+    ∙ invlpg_takes (is_canonical (la57 known) address) (key_covers (cache_key c level page held) address) (c == pcid_of known) held.global held.leaf canonical covered serves
 
 -- what an event removes is held after it only if it was made anew
 stands_removed : {p c x : ℕ} {before : History} {happened : Event} {level : ℕ} {held : Held} (known : Regs) → regs before p ≡ Some known → regs (next before happened) p ≡ Some known
-    → kills happened p known (key_of c x level held) ≡ true → TakesEach before happened p (pcid_of known) x → MayHold p c x (next before happened) level held
+    → kills happened p known (cache_key c level x held) ≡ true → TakesEach before happened p (pcid_of known) x → MayHold (next before happened) p c level x held
     → Stands (memory (next before happened)) (machine (next before happened)) (regs (next before happened) p) c x level held
-stands_removed {p = p} {c = c} {x = x} known was_known now_known taken each (kept {level = level} {held = held} {known = earlier_known} happened earlier is_known spares) =
+stands_removed {p = p} {c = c} {x = x} known was_known now_known taken each (kept happened {level = level} {held = held} {known = earlier_known} earlier is_known spares) =
     let same : earlier_known ≡ known = some-same earlier_known known (sym is_known ∙ was_known) in
-    let spared : kills happened p known (key_of c x level held) ≡ false = subst (λ one. kills happened p one (key_of c x level held) ≡ false) same spares in
+    let spared : kills happened p known (cache_key c level x held) ≡ false = subst (λ one. kills happened p one (cache_key c level x held) ≡ false) same spares in
     absurd (cc (taken, spared))
 stands_removed {p = p} {c = c} {x = x} {before = before} {happened = happened} known was_known now_known taken each (at_root {known = later_known} is_known current top is_made) =
     let own : c ≡ pcid_of known = current ∙ ap pcid_of (some-same later_known known (sym is_known ∙ now_known)) in
@@ -119,10 +119,10 @@ invlpg_not_stale before address finding known is_known canonical page_is current
     let each : TakesEach before (event.Invlpg finding.cpu address) finding.cpu (pcid_of known) finding.page =
     record {
       takes = λ was level held was_known.
-          subst (λ one. kills (event.Invlpg finding.cpu address) finding.cpu one (key_of (pcid_of known) finding.page level held) ≡ true) (some-same known was (sym is_known ∙ was_known))
+          subst (λ one. kills (event.Invlpg finding.cpu address) finding.cpu one (cache_key (pcid_of known) level finding.page held) ≡ true) (some-same known was (sym is_known ∙ was_known))
           (invlpg-kills finding.cpu (pcid_of known) finding.page address level known held canonical page_is (inl (equal_self (pcid_of known))));
     } in
-    let may_use : MayUse (next before (event.Invlpg finding.cpu address)) finding.cpu finding.pcid finding.page stale.level stale.held = stale.may_use in
+    let may_use : MayUse (next before (event.Invlpg finding.cpu address)) finding.cpu finding.pcid stale.level finding.page stale.held = stale.may_use in
     let serves : ((may_use.under == pcid_of known) ≡ true) ⊎ ((stale.held.leaf ≡ true) × (stale.held.global ≡ true)) =
     elim may_use.reaches [
       | inl same ↦ inl (ap (λ n. n == pcid_of known) (same ∙ current) ∙ equal_self (pcid_of known))

@@ -4,7 +4,7 @@ use Rattle.std.proofs.lemmas.Bool.Decides.{nat_tests}
 use Rattle.std.specs.Prelude.{◌==◌, ◌||◌, not, if◌then◌else◌, option_map, option_and_then}
 use Rattle.paging_model.specs.Memory.{Memory, entry_at}
 use Rattle.paging_model.specs.Registers.{la57, pge, settings_of}
-use Rattle.paging_model.specs.Entries.{entry_of, is_leaf, is_present, is_reserved, page_size, is_global, bits_of, page_frame, table_frame, key_of}
+use Rattle.paging_model.specs.Entries.{entry_of, is_leaf, is_present, is_reserved, page_size, is_global, bits_of, page_frame, table_frame, protection_key}
 use Rattle.paging_model.specs.Walking.{entry_address}
 use Rattle.paging_model.specs.declared.entries.Bits.{Bits}
 use Rattle.paging_model.specs.declared.entries.Entry.TheVariants as entry
@@ -13,8 +13,8 @@ use Rattle.paging_model.specs.declared.registers.Regs.{Regs}
 use Rattle.paging_model.specs.declared.registers.Settings.{Settings}
 use Rattle.history_model.specs.History.{History}
 use Rattle.history_model.specs.Horizons.{here, later}
-use Rattle.history_model.specs.CachedTranslations.{Held, MayHold, kept, at_root, below, made, held_of}
-use Rattle.history_laws.specs.Levels.{HasLevel, HasLevels, levels_of}
+use Rattle.history_model.specs.CachedTranslations.{Held, MayHold, kept, at_root, below, fill_of, held_of}
+use Rattle.history_laws.specs.HeldLevels.{HasLevel, HasLevels, levels_of}
 
 -- an entry that was read, and what is held of it
 pub record IsReadAs (pages_are_global : Bool) (above : Bits) (settings : Settings) (level : ℕ) (value : Option ℕ) (held : Held) : Type 0 where
@@ -29,10 +29,10 @@ no_entry pages_are_global above settings level held None h = absurd (cc)
 no_entry pages_are_global above settings level held (Some number) h = record { number = number; was_read = refl; is_held = h }
 
 -- what is held of an entry was read in memory
-pub read_of : (memory : Memory) (machine : Machine) (known : Regs) (x level table : ℕ) (above : Bits) (held : Held) → made memory machine known x level table above ≡ Some held
-    → IsReadAs (pge known) above (settings_of known machine) level (entry_at memory (entry_address level table x)) held
-unfolding made
-read_of memory machine known x level table above held h = no_entry (pge known) above (settings_of known machine) level held (entry_at memory (entry_address level table x)) h
+pub read_of : (memory : Memory) (machine : Machine) (known : Regs) (x level table : ℕ) (above : Bits) (held : Held) → fill_of memory machine known level x table above ≡ Some held
+    → IsReadAs (pge known) above (settings_of known machine) level (entry_at memory (entry_address level x table)) held
+unfolding fill_of
+read_of memory machine known x level table above held h = no_entry (pge known) above (settings_of known machine) level held (entry_at memory (entry_address level x table)) h
 
 abbrev leaf_in : Option Held → Bool
 leaf_in None = false
@@ -50,7 +50,7 @@ form_of_tests true false false pages_are_global global above bits page table key
 form_of : (pages_are_global : Bool) (above : Bits) (settings : Settings) (level number : ℕ) (held : Held) → held_of pages_are_global above (entry_of level settings number) ≡ Some held → held.leaf ≡ is_leaf level number
 unfolding entry_of
 form_of pages_are_global above settings level number held h =
-    form_of_tests (is_present number) (is_reserved level settings number) (is_leaf level number) pages_are_global (is_global number) above (bits_of number) (page_frame level number) (table_frame number) (key_of number) held h
+    form_of_tests (is_present number) (is_reserved level settings number) (is_leaf level number) pages_are_global (is_global number) above (bits_of number) (page_frame level number) (table_frame number) (protection_key number) held h
 
 leaf_below : (level : ℕ) (large : Bool) → (level == 1 || ((level == 2 || level == 3) && large)) ≡ true → level ≤ 3
 leaf_below level true h = grind (arith, nat_tests)
@@ -61,7 +61,7 @@ table_above level true least h = grind (arith, nat_tests)
 table_above level false least h = grind (arith, nat_tests)
 
 level_of_made : (memory : Memory) (machine : Machine) (known : Regs) (x level table : ℕ) (above : Bits) (held : Held) → 1 ≤ level → level ≤ 5
-    → made memory machine known x level table above ≡ Some held → HasLevel level held
+    → fill_of memory machine known level x table above ≡ Some held → HasLevel level held
 level_of_made memory machine known x level table above held least most is_made =
     let read = read_of memory machine known x level table above held is_made in
     let form : held.leaf ≡ is_leaf level read.number = form_of (pge known) above (settings_of known machine) level read.number held read.is_held in
@@ -77,7 +77,7 @@ pub levels_within : (five_levels : Bool) → (4 ≤ levels_of five_levels) × (l
 levels_within true = (omega arith, omega arith)
 levels_within false = (omega arith, omega arith)
 
-pub held_has_level : {p c x : ℕ} {history : History} {level : ℕ} {held : Held} → MayHold p c x history level held → HasLevel level held
+pub held_has_level : {p c x : ℕ} {history : History} {level : ℕ} {held : Held} → MayHold history p c level x held → HasLevel level held
 held_has_level (kept happened earlier is_known spares) = held_has_level earlier
 held_has_level (at_root {known = known} is_known current top is_made) =
     let within = levels_within (la57 known) in level_of_made _ _ _ _ _ _ _ _ (omega (arith, top, within.0)) (omega (arith, top, within.1)) is_made
@@ -88,7 +88,7 @@ held_has_level (below {level = level} above is_known current above_held referenc
 
 -- no level above the top level where that stays the same
 pub held_below_top : {p c x : ℕ} {history : History} {level : ℕ} {held : Held} (five_levels : Bool) → HasLevels history p five_levels
-    → MayHold p c x history level held → level ≤ levels_of five_levels
+    → MayHold history p c level x held → level ≤ levels_of five_levels
 held_below_top five_levels same (kept happened earlier is_known spares) =
     held_below_top five_levels (λ moment known up_to. same moment known (later happened up_to)) earlier
 held_below_top five_levels same (at_root {history = history} {known = known} is_known current top is_made) =

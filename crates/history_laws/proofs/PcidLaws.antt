@@ -5,7 +5,7 @@ use Rattle.std.specs.Prelude.{◌==◌, if◌then◌else◌, option_map, nat_lt}
 use Rattle.paging_model.specs.Counting.{IsIn}
 use Rattle.paging_model.specs.Registers.{pcid_of}
 use Rattle.paging_model.specs.declared.registers.Regs.{Regs}
-use Rattle.history_model.specs.History.{History, begun, next, regs, been, with_number, with_pcid}
+use Rattle.history_model.specs.History.{History, begun, next, regs, visited_pcids, with_number, with_pcid}
 use Rattle.history_model.specs.CachedTranslations.{Held, MayHold, MayUse, kept, at_root, below}
 
 new_where : (same less : Bool) (n one : ℕ) (rest : List ℕ) → (same ≡ true → n ≡ one) → IsIn n (with_number n rest)
@@ -37,29 +37,29 @@ with_pcid-new : (known : Regs) (now : Option Regs) (list : List ℕ) → now ≡
 with_pcid-new known now list is_known =
     subst (λ one. IsIn (pcid_of known) (with_pcid (option_map pcid_of one) list)) (sym is_known) (with_number-new (pcid_of known) list)
 
--- a processor has been in its current PCID
-pub been-now : (history : History) (p : ℕ) (known : Regs) → regs history p ≡ Some known → IsIn (pcid_of known) (been history p)
-been-now (begun start) p known is_known = with_pcid-new known _ [] is_known
-been-now (next before happened) p known is_known = with_pcid-new known _ (been before p) is_known
+-- the current PCID is visited
+pub visited-now : (history : History) (p : ℕ) (known : Regs) → regs history p ≡ Some known → IsIn (pcid_of known) (visited_pcids history p)
+visited-now (begun start) p known is_known = with_pcid-new known _ [] is_known
+visited-now (next before happened) p known is_known = with_pcid-new known _ (visited_pcids before p) is_known
 
-been-current : (history : History) (p c : ℕ) (known : Regs) → regs history p ≡ Some known → c ≡ pcid_of known → IsIn c (been history p)
-been-current history p c known is_known current = subst (λ n. IsIn n (been history p)) (sym current) (been-now history p known is_known)
+visited-current : (history : History) (p c : ℕ) (known : Regs) → regs history p ≡ Some known → c ≡ pcid_of known → IsIn c (visited_pcids history p)
+visited-current history p c known is_known current = subst (λ n. IsIn n (visited_pcids history p)) (sym current) (visited-now history p known is_known)
 
--- what may be held is held under a PCID that the processor has been in
-pub held_under_been : {p c x : ℕ} {history : History} {level : ℕ} {held : Held} → MayHold p c x history level held → IsIn c (been history p)
-held_under_been {p = p} {c = c} (kept {before = before} happened earlier is_known spares) = with_pcid-old c _ (been before p) (held_under_been earlier)
-held_under_been {p = p} {c = c} (at_root {history = history} {known = known} is_known current top is_made) = been-current history p c known is_known current
-held_under_been {p = p} {c = c} (below {history = history} {known = known} above is_known current above_held references is_made) = been-current history p c known is_known current
+-- what may be held is held under a visited PCID
+pub held_under_visited : {p c x : ℕ} {history : History} {level : ℕ} {held : Held} → MayHold history p c level x held → IsIn c (visited_pcids history p)
+held_under_visited {p = p} {c = c} (kept {before = before} happened earlier is_known spares) = with_pcid-old c _ (visited_pcids before p) (held_under_visited earlier)
+held_under_visited {p = p} {c = c} (at_root {history = history} {known = known} is_known current top is_made) = visited-current history p c known is_known current
+held_under_visited {p = p} {c = c} (below {history = history} {known = known} above is_known current above_held references is_made) = visited-current history p c known is_known current
 
 -- a global translation that may be used under one PCID may be used under each
-pub global_serves_all : (history : History) (p c d page level : ℕ) (held : Held) → held.global ≡ true → MayUse history p c page level held → MayUse history p d page level held
+pub global_serves_all : (history : History) (p c d page level : ℕ) (held : Held) → held.global ≡ true → MayUse history p c level page held → MayUse history p d level page held
 global_serves_all history p c d page level held global may_use =
-    record { leaf = may_use.leaf; under = may_use.under; reaches = inr (global, held_under_been may_use.held_there); held_there = may_use.held_there }
+    record { leaf = may_use.leaf; under = may_use.under; reaches = inr (global, held_under_visited may_use.held_there); held_there = may_use.held_there }
 
 -- another one may be used under its own PCID alone
-pub own_serves_one : (history : History) (p c page level : ℕ) (held : Held) → held.global ≡ false → MayUse history p c page level held → MayHold p c page history level held
+pub own_serves_one : (history : History) (p c page level : ℕ) (held : Held) → held.global ≡ false → MayUse history p c level page held → MayHold history p c level page held
 own_serves_one history p c page level held own may_use = held_at may_use.under may_use.reaches may_use.held_there
   where
-    held_at : (under : ℕ) → (under ≡ c) ⊎ ((held.global ≡ true) × IsIn under (been history p)) → MayHold p under page history level held → MayHold p c page history level held
-    held_at under (inl e) m = subst (λ n. MayHold p n page history level held) e m
+    held_at : (under : ℕ) → (under ≡ c) ⊎ ((held.global ≡ true) × IsIn under (visited_pcids history p)) → MayHold history p under level page held → MayHold history p c level page held
+    held_at under (inl e) m = subst (λ n. MayHold history p n level page held) e m
     held_at under (inr other) m = let is_global = other.0 in absurd (cc (is_global, own))

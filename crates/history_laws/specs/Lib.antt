@@ -1,4 +1,4 @@
 pub mod Making
 pub mod QuietHistories
-pub mod Levels
+pub mod HeldLevels
 pub mod Executing

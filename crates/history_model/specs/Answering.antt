@@ -8,7 +8,7 @@ use Rattle.paging_model.specs.TableUses.{IsTooLarge, IsWithinLimits}
 use Rattle.paging_model.specs.declared.registers.Machine.{Machine}
 use Rattle.paging_model.specs.declared.registers.Regs.{Regs}
 use Rattle.paging_model.specs.declared.spaces.Area.{Area}
-use Rattle.history_model.specs.Asking.{asked}
+use Rattle.history_model.specs.Asking.{answer_to_ask}
 use Rattle.history_model.specs.History.{History, memory, machine, regs}
 use Rattle.history_model.specs.StaleTranslations.{AreFindings, scope}
 use Rattle.history_model.specs.declared.answers.Answer.{Answer}
@@ -28,7 +28,7 @@ AnswersList memory machine known answer =
 abbrev pub Answers : History → Event → Answer → Type 0
 Answers history (event.Ask cpu access pointer) answer =
     (known : Regs) × (regs history cpu ≡ Some known)
-    × (answer ≡ Asked (asked (memory history) (machine history) known access pointer))
+    × (answer ≡ Asked (answer_to_ask (memory history) (machine history) known access pointer))
 Answers history (event.List cpu) answer =
     (known : Regs) × (regs history cpu ≡ Some known) × AnswersList (memory history) (machine history) known answer
 Answers history (event.Point all) answer =

@@ -23,7 +23,7 @@ abbrev pub unless_denied : ℕ → Option Rule → Result ℕ Why
 unless_denied address None = Ok address
 unless_denied address (Some rule) = Err (Denied rule)
 
--- the answer at the end of the walk of x: the address's place in its page, unless the access is denied
+-- the answer at the end of the walk of x: the frame and the offset in the page, unless the access is denied
 abbrev pub at_end : Regs → Access → ℕ → Walk → Result ℕ Why
 at_end regs access x (walked.Mapped page) = unless_denied (page.frame + x % 4096) (denial_of regs access page.bits page.key)
 at_end regs access x (walked.Absent level) = Err (Absent level)
@@ -31,12 +31,12 @@ at_end regs access x (walked.Reserved level) = Err (Reserved level)
 at_end regs access x (walked.Unknown level) = Err (Unknown level)
 
 -- the walk of an aimed address, from the present root
-abbrev pub aimed_at : Memory → Machine → Regs → Access → Result ℕ AimRule → Result ℕ Why
-aimed_at memory machine regs access (Err aim.NotCanonical) = Err NotCanonical
-aimed_at memory machine regs access (Err aim.Lass) = Err Lass
-aimed_at memory machine regs access (Ok x) =
+abbrev pub after_aim : Memory → Machine → Regs → Access → Result ℕ AimRule → Result ℕ Why
+after_aim memory machine regs access (Err aim.NotCanonical) = Err NotCanonical
+after_aim memory machine regs access (Err aim.Lass) = Err Lass
+after_aim memory machine regs access (Ok x) =
     at_end regs access x (walk memory (settings_of regs machine) (root_of regs machine) x)
 
 -- the pointer's rules come first, then the walk, then the rules of the page
-abbrev pub asked : Memory → Machine → Regs → Access → ℕ → Result ℕ Why
-asked memory machine regs access pointer = aimed_at memory machine regs access (aim_of regs access pointer)
+abbrev pub answer_to_ask : Memory → Machine → Regs → Access → ℕ → Result ℕ Why
+answer_to_ask memory machine regs access pointer = after_aim memory machine regs access (aim_of regs access pointer)

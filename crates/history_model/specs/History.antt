@@ -3,48 +3,50 @@
 use Rattle.std.specs.Prelude.{ℕ, ◌+◌, ◌-◌, ◌*◌, ◌/◌, ◌==◌, ◌&&◌, Bool, true, List, [], ◌∷◌, length, slice_index, Option, Some, None, option_map, is_some, nat_le, nat_lt, if◌then◌else◌}
 use Rattle.paging_model.specs.Memory.{Memory, Extent, byte_in}
 use Rattle.paging_model.specs.Registers.{pcid_of, root_of}
-use Rattle.paging_model.specs.RegisterRules.{changed}
+use Rattle.paging_model.specs.RegisterRules.{with_change}
 use Rattle.paging_model.specs.declared.registers.Machine.{Machine}
+use Rattle.paging_model.specs.declared.registers.Processor.{Processor}
 use Rattle.paging_model.specs.declared.registers.RegChange.{RegChange}
 use Rattle.paging_model.specs.declared.registers.Regs.{Regs}
 use Rattle.history_model.specs.declared.events.Event.{Event}
 use Rattle.history_model.specs.declared.events.Event.TheVariants as event
 
--- what the core and the state lines state: known memory, the machine and whether it is stated, and each processor's
--- number and registers, by rising number
+-- what the core and the state lines state: known memory, the machine and whether it is stated, and the processors,
+-- ascending by number
 pub record Start : Type 0 where
   pub extents : List Extent
   pub stated : Bool
   pub machine : Machine
-  pub processors : List (ℕ × Regs)
+  pub processors : List Processor
 
 -- the moments that events lead to, one after another
 pub data History : Type 0 where
   begun : Start → History
   next : History → Event → History
 
--- a processor among others, by rising number
-abbrev pub placed : ℕ → Regs → List (ℕ × Regs) → List (ℕ × Regs)
-placed cpu regs [] = (cpu, regs) ∷ []
-placed cpu regs (one ∷ rest) = if nat_lt cpu one.0 then (cpu, regs) ∷ one ∷ rest else one ∷ placed cpu regs rest
+-- a processor among others, ascending by number
+abbrev pub insert_processor : Processor → List Processor → List Processor
+insert_processor processor [] = processor ∷ []
+insert_processor processor (one ∷ rest) =
+    if nat_lt processor.number one.number then processor ∷ one ∷ rest else one ∷ insert_processor processor rest
 
--- processors, each placed among those before it
-abbrev pub placed_all : List (ℕ × Regs) → List (ℕ × Regs) → List (ℕ × Regs)
-placed_all before [] = before
-placed_all before (one ∷ rest) = placed_all (placed one.0 one.1 before) rest
+-- processors, each inserted among those before it
+abbrev pub insert_processors : List Processor → List Processor → List Processor
+insert_processors before [] = before
+insert_processors before (one ∷ rest) = insert_processors (insert_processor one before) rest
 
 -- a beginning that states a machine
 abbrev pub with_machine : Machine → Start → Start
 with_machine machine start = record start { stated = true; machine = machine }
 
 -- a beginning that states a processor too
-abbrev pub with_processor : ℕ → Regs → Start → Start
-with_processor cpu regs start = record start { processors = placed cpu regs start.processors }
+abbrev pub with_processor : Processor → Start → Start
+with_processor processor start = record start { processors = insert_processor processor start.processors }
 
 -- the moment after an accepted event; a state line, which comes before the first event, makes another beginning
 abbrev pub after_event : Event → History → History
 after_event (event.Machine machine) (begun start) = begun (with_machine machine start)
-after_event (event.Cpu cpu regs) (begun start) = begun (with_processor cpu regs start)
+after_event (event.Cpu cpu regs) (begun start) = begun (with_processor (record { number = cpu; regs = regs }) start)
 after_event happened history = next history happened
 
 -- what the core and the state lines of a moment state
@@ -62,13 +64,14 @@ abbrev pub machine : History → Machine
 machine history = (start_of history).machine
 
 -- memory after bytes were written from an address on; what isn't known stays unknown
-abbrev pub written : ℕ → List ℕ → Memory → Memory
-written at bytes before a =
-    if is_some (before a) && nat_le at a && nat_lt a (at + length bytes) then Some (slice_index bytes (a - at)) else before a
+abbrev pub with_bytes : ℕ → List ℕ → Memory → Memory
+with_bytes at bytes before a =
+    if is_some (before a) && nat_le at a && nat_lt a (at + length bytes) then Some (slice_index bytes (a - at))
+    else before a
 
 -- what an event makes of memory
 abbrev pub memory_after : Event → Memory → Memory
-memory_after (event.Write at bytes) before = written at bytes before
+memory_after (event.Write at bytes) before = with_bytes at bytes before
 memory_after _ before = before
 
 -- what is known of physical memory
@@ -76,7 +79,7 @@ abbrev pub memory : History → Memory
 memory (begun start) = byte_in start.extents
 memory (next before happened) = memory_after happened (memory before)
 
--- numbers that ascend, with one more; each stands once
+-- ascending numbers and one more, each of them once
 abbrev pub with_number : ℕ → List ℕ → List ℕ
 with_number n [] = n ∷ []
 with_number n (one ∷ rest) =
@@ -86,31 +89,32 @@ with_number n (one ∷ rest) =
 abbrev pub page_of : ℕ → ℕ
 page_of a = a / 4096 * 4096
 
--- the physical pages that were written to, by rising address
+-- the physical pages that were written to, ascending by address
 abbrev pub pages : History → List ℕ
 pages (begun start) = []
 pages (next before (event.Write at bytes)) = with_number (page_of at) (pages before)
 pages (next before _) = pages before
 
 -- a change of one processor's registers
-abbrev pub set_in : ℕ → RegChange → List (ℕ × Regs) → List (ℕ × Regs)
+abbrev pub set_in : ℕ → RegChange → List Processor → List Processor
 set_in cpu change [] = []
-set_in cpu change (one ∷ rest) = (if one.0 == cpu then (one.0, changed change one.1) else one) ∷ set_in cpu change rest
+set_in cpu change (one ∷ rest) =
+    (if one.number == cpu then (record one { regs = with_change change one.regs }) else one) ∷ set_in cpu change rest
 
 -- what an event makes of the processors' registers
-abbrev pub processors_after : Event → List (ℕ × Regs) → List (ℕ × Regs)
+abbrev pub processors_after : Event → List Processor → List Processor
 processors_after (event.Set cpu change) before = set_in cpu change before
 processors_after _ before = before
 
--- the processors and their registers, by rising number
-abbrev pub processors : History → List (ℕ × Regs)
+-- the processors and their registers, ascending by number
+abbrev pub processors : History → List Processor
 processors (begun start) = start.processors
 processors (next before happened) = processors_after happened (processors before)
 
 -- the registers of the first processor of a number
-abbrev pub regs_in : List (ℕ × Regs) → ℕ → Option Regs
+abbrev pub regs_in : List Processor → ℕ → Option Regs
 regs_in [] cpu = None
-regs_in (one ∷ rest) cpu = if one.0 == cpu then Some one.1 else regs_in rest cpu
+regs_in (one ∷ rest) cpu = if one.number == cpu then Some one.regs else regs_in rest cpu
 
 -- a processor's registers; none where the processor isn't known
 abbrev pub regs : History → ℕ → Option Regs
@@ -120,23 +124,23 @@ regs history cpu = regs_in (processors history) cpu
 abbrev pub pcid : History → ℕ → Option ℕ
 pcid history cpu = option_map pcid_of (regs history cpu)
 
--- numbers that ascend, with the PCID of a known processor
+-- ascending numbers, and the PCID of a known processor
 abbrev pub with_pcid : Option ℕ → List ℕ → List ℕ
 with_pcid None pcids = pcids
 with_pcid (Some one) pcids = with_number one pcids
 
--- the PCIDs that a processor has been in, ascending
-abbrev pub been : History → ℕ → List ℕ
-been (begun start) cpu = with_pcid (pcid (begun start) cpu) []
-been (next before happened) cpu = with_pcid (pcid (next before happened) cpu) (been before cpu)
+-- the visited PCIDs of a processor: those that it has been in, ascending
+abbrev pub visited_pcids : History → ℕ → List ℕ
+visited_pcids (begun start) cpu = with_pcid (pcid (begun start) cpu) []
+visited_pcids (next before happened) cpu = with_pcid (pcid (next before happened) cpu) (visited_pcids before cpu)
 
--- the root under these registers, where they are in the PCID, else an earlier one
-abbrev pub home_under : Option Regs → Machine → ℕ → Option ℕ → Option ℕ
-home_under None machine c earlier = earlier
-home_under (Some known) machine c earlier = if pcid_of known == c then Some (root_of known machine) else earlier
+-- the root of these registers, where they are in the PCID, else an earlier one
+abbrev pub last_root_under : Machine → Option Regs → ℕ → Option ℕ → Option ℕ
+last_root_under machine None c earlier = earlier
+last_root_under machine (Some known) c earlier = if pcid_of known == c then Some (root_of known machine) else earlier
 
--- the root that a processor had last in a PCID; none where it wasn't in it
-abbrev pub home : History → ℕ → ℕ → Option ℕ
-home (begun start) cpu c = home_under (regs (begun start) cpu) start.machine c None
-home (next before happened) cpu c =
-    home_under (regs (next before happened) cpu) (machine before) c (home before cpu c)
+-- the last root of a PCID: the root that a processor had last in it; none where the processor wasn't in it
+abbrev pub last_root : History → ℕ → ℕ → Option ℕ
+last_root (begun start) cpu c = last_root_under start.machine (regs (begun start) cpu) c None
+last_root (next before happened) cpu c =
+    last_root_under (machine before) (regs (next before happened) cpu) c (last_root before cpu c)

@@ -4,10 +4,11 @@ use Rattle.std.specs.Prelude.{◌≡◌, ℕ, ◌+◌, ◌*◌, ◌≤◌, Bool,
 use Rattle.paging_model.specs.Counting.{Count, IsIn}
 use Rattle.paging_model.specs.Registers.{root_of}
 use Rattle.paging_model.specs.TableUses.{IsUse}
+use Rattle.paging_model.specs.declared.registers.Processor.{Processor}
 use Rattle.paging_model.specs.declared.registers.Regs.{Regs}
 use Rattle.paging_model.specs.declared.spaces.SpaceKey.{SpaceKey}
 use Rattle.paging_model.specs.declared.spaces.TableUse.{TableUse}
-use Rattle.history_model.specs.History.{History, begun, next, time, memory, machine, processors, regs, been, home, page_of, with_number}
+use Rattle.history_model.specs.History.{History, begun, next, time, memory, machine, processors, regs, visited_pcids, last_root, page_of, with_number}
 use Rattle.history_model.specs.Invalidations.{loses_all}
 use Rattle.history_model.specs.KeptSpaces.{slots_written, space_of}
 use Rattle.history_model.specs.declared.events.Event.{Event}
@@ -21,46 +22,49 @@ takes_all happened cpu (Some known) = loses_all happened cpu known
 -- the last time at which a processor lost everything, or 0
 abbrev pub horizon : History → ℕ → ℕ
 horizon (begun start) cpu = 0
-horizon (next before happened) cpu = if takes_all happened cpu (regs before cpu) then time before + 1 else horizon before cpu
+horizon (next before happened) cpu =
+    if takes_all happened cpu (regs before cpu) then time before + 1 else horizon before cpu
 
 -- the least of a number and the horizons of these processors
-abbrev pub least_of : History → List (ℕ × Regs) → ℕ → ℕ
+abbrev pub least_of : History → List Processor → ℕ → ℕ
 least_of history [] least = least
-least_of history (one ∷ rest) least = least_of history rest (min (horizon history one.0) least)
+least_of history (one ∷ rest) least = least_of history rest (min (horizon history one.number) least)
 
 -- the least horizon of all processors; without processors it is now
 abbrev pub least : History → ℕ
 least history = least_of history (processors history) (time history)
 
--- how many entries' places an event writes
+-- the number of slots of memory, one of them for each entry, that an event writes to
 abbrev pub slots_of : Event → ℕ
 slots_of (event.Write at bytes) = slots_written at (length bytes)
 slots_of _ = 0
 
--- the number of pairs of a write after a time and an entry's place that it writes
-abbrev pub changes_after : ℕ → History → ℕ
-changes_after t (begun start) = 0
-changes_after t (next before happened) = changes_after t before + (if nat_lt t (time before + 1) then slots_of happened else 0)
+-- the number of pairs of a write after a time and a slot that it writes to
+abbrev pub changes_after : History → ℕ → ℕ
+changes_after (begun start) t = 0
+changes_after (next before happened) t =
+    changes_after before t + (if nat_lt t (time before + 1) then slots_of happened else 0)
 
--- pages that ascend, with that of an event that writes
+-- ascending pages, and that of an event that writes
 abbrev pub with_page : Event → List ℕ → List ℕ
 with_page (event.Write at bytes) pages = with_number (page_of at) pages
 with_page _ pages = pages
 
--- the pages of these writes
-abbrev pub pages_after : ℕ → History → List ℕ
-pages_after t (begun start) = []
-pages_after t (next before happened) = if nat_lt t (time before + 1) then with_page happened (pages_after t before) else pages_after t before
+-- the pages that are written to after a time, ascending
+abbrev pub pages_after : History → ℕ → List ℕ
+pages_after (begun start) t = []
+pages_after (next before happened) t =
+    if nat_lt t (time before + 1) then with_page happened (pages_after before t) else pages_after before t
 
--- the writes of entries' places since the least horizon
+-- the number of pairs of a write since the least horizon and a slot that it writes to
 abbrev pub changes : History → ℕ
-changes history = changes_after (least history) history
+changes history = changes_after history (least history)
 
--- the number of the pages that they touch
+-- the number of the pages that are written to since the least horizon
 abbrev pub frames : History → ℕ
-frames history = length (pages_after (least history) history)
+frames history = length (pages_after history (least history))
 
--- a moment on the way to another, or that one
+-- a moment on the way to another, or the other itself
 pub data IsUpTo (moment : History) : History → Type 0 where
   here : IsUpTo moment moment
   later : {history : History} (happened : Event) → IsUpTo moment history → IsUpTo moment (next history happened)
@@ -70,16 +74,19 @@ abbrev pub space : History → ℕ → Option SpaceKey
 space history cpu = option_map (λ known. space_of (machine history) known) (regs history cpu)
 
 -- the event writes to memory
-abbrev pub is_write : Event → Bool
-is_write (event.Write _ _) = true
-is_write _ = false
+abbrev pub is_memory_write : Event → Bool
+is_memory_write (event.Write _ _) = true
+is_memory_write _ = false
 
 -- nothing that a processor's walks depend on has changed since its horizon, and in each PCID it had the present root
 pub record IsStill (history : History) (cpu : ℕ) : Type 0 where
-  pub unwritten : (before : History) (happened : Event) → IsUpTo (next before happened) history → horizon history cpu ≤ time before → is_write happened ≡ false
-  pub same_space : (moment : History) → IsUpTo moment history → horizon history cpu ≤ time moment → space moment cpu ≡ space history cpu
-  pub same_home : (moment : History) (c : ℕ) → IsUpTo moment history → horizon history cpu ≤ time moment → IsIn c (been moment cpu)
-      → home moment cpu c ≡ option_map (λ known. root_of known (machine history)) (regs history cpu)
+  pub unwritten : (before : History) (happened : Event) → IsUpTo (next before happened) history
+      → horizon history cpu ≤ time before → is_memory_write happened ≡ false
+  pub same_space : (moment : History) → IsUpTo moment history → horizon history cpu ≤ time moment
+      → space moment cpu ≡ space history cpu
+  pub same_root : (moment : History) (c : ℕ) → IsUpTo moment history
+      → horizon history cpu ≤ time moment → IsIn c (visited_pcids moment cpu)
+      → last_root moment cpu c ≡ option_map (λ known. root_of known (machine history)) (regs history cpu)
 
 -- a level and a frame at which some table of a space is used
 pub record IsTable (history : History) (key : SpaceKey) (table : ℕ × ℕ) : Type 0 where
@@ -94,4 +101,4 @@ pub record AuditsWithin (history : History) (cpu steps : ℕ) : Type 0 where
   pub is_space : space history cpu ≡ Some key
   pub tables : ℕ
   pub are_tables : Count (IsTable history key) tables
-  pub bound : steps ≡ 1024 * (tables + length (been history cpu) * length (been history cpu))
+  pub bound : steps ≡ 1024 * (tables + length (visited_pcids history cpu) * length (visited_pcids history cpu))

@@ -12,8 +12,8 @@ use Rattle.history_model.specs.declared.events.Event.{Event}
 use Rattle.history_model.specs.declared.events.Event.TheVariants as event
 
 -- the entry serves the address
-abbrev pub covers : CacheKey → ℕ → Bool
-covers key address = nat_le key.prefix address && nat_lt address (key.prefix + span key.level)
+abbrev pub key_covers : CacheKey → ℕ → Bool
+key_covers key address = nat_le key.prefix address && nat_lt address (key.prefix + span key.level)
 
 -- a translation that may be used under every PCID
 abbrev pub is_global_leaf : CacheKey → Bool
@@ -28,13 +28,13 @@ is_of pcid key = key.pcid == pcid && not (is_global_leaf key)
 abbrev pub invlpg_kills : ℕ → Regs → CacheKey → Bool
 invlpg_kills address before key =
     is_canonical (la57 before) address
-    && (if key.leaf then covers key address && (key.pcid == pcid_of before || key.global) else key.pcid == pcid_of before)
+    && (if key.leaf then key_covers key address && (key.pcid == pcid_of before || key.global) else key.pcid == pcid_of before)
 
 -- INVPCID of type 0: one address of a PCID, where it is canonical; 1: a PCID; 2: everything; 3: everything but global
 -- translations
 abbrev pub invpcid_kills : ℕ → ℕ → ℕ → Regs → CacheKey → Bool
 invpcid_kills kind pcid address before key =
-    if kind == 0 then is_canonical (la57 before) address && is_of pcid key && covers key address else
+    if kind == 0 then is_canonical (la57 before) address && is_of pcid key && key_covers key address else
     (if kind == 1 then is_of pcid key else
     (if kind == 2 then true else
     (if kind == 3 then not (is_global_leaf key) else false)))

@@ -24,7 +24,8 @@ kept_limit = 16
 -- the settings are equal
 abbrev pub same_settings : Settings → Settings → Bool
 same_settings one other =
-    one.m == other.m && not (differs one.big other.big) && not (differs one.la57 other.la57) && not (differs one.nxe other.nxe)
+    one.m == other.m && not (differs one.big other.big) && not (differs one.la57 other.la57)
+    && not (differs one.nxe other.nxe)
 
 -- root and settings are equal
 abbrev pub same_key : SpaceKey → SpaceKey → Bool
@@ -67,22 +68,25 @@ KeptAfterList memory machine (Some known) earlier keys =
 
 -- what an event makes of the kept spaces; only a list and a write change them
 abbrev pub KeptAfter : History → Event → List SpaceKey → List SpaceKey → Type 0
-KeptAfter before (event.List cpu) earlier keys = KeptAfterList (memory before) (machine before) (regs before cpu) earlier keys
-KeptAfter before (event.Write at bytes) earlier keys = StayKept (memory (next before (event.Write at bytes))) earlier keys
+KeptAfter before (event.List cpu) earlier keys =
+    KeptAfterList (memory before) (machine before) (regs before cpu) earlier keys
+KeptAfter before (event.Write at bytes) earlier keys =
+    StayKept (memory (next before (event.Write at bytes))) earlier keys
 KeptAfter before _ earlier keys = keys ≡ earlier
 
 -- the kept spaces, the one that was listed last first
 abbrev pub AreKept : History → List SpaceKey → Type 0
 AreKept (begun start) keys = keys ≡ []
-AreKept (next before happened) keys = (earlier : List SpaceKey) × AreKept before earlier × KeptAfter before happened earlier keys
+AreKept (next before happened) keys =
+    (earlier : List SpaceKey) × AreKept before earlier × KeptAfter before happened earlier keys
 
--- an aligned eight-byte place that a write of so many bytes touches
+-- a slot, which is eight aligned bytes of memory, that a write of so many bytes touches
 pub record IsWrittenSlot (at n slot : ℕ) : Type 0 where
   pub aligned : slot % 8 ≡ 0
   pub begins : slot < at + n
   pub ends : at < slot + 8
 
--- how many they are, of a write of a byte at least
+-- the number of slots that a write touches, of a byte at least
 abbrev pub slots_written : ℕ → ℕ → ℕ
 slots_written at n = (at + n - 1) / 8 + 1 - at / 8
 
@@ -93,8 +97,8 @@ pub record IsTouched (memory : Memory) (key : SpaceKey) (at n : ℕ) (table : Ta
   pub frame : ℕ
   pub bits : Bits
   pub above : table.level < level
-  pub reached : Reaches memory key.settings key.root table.prefix level frame bits
-  pub written : IsWrittenSlot at n (entry_address level frame table.prefix)
+  pub reached : Reaches memory key.settings key.root level table.prefix frame bits
+  pub written : IsWrittenSlot at n (entry_address level table.prefix frame)
 
 -- a use of the written frame, and a slot of it that is written
 pub record IsOwn (memory : Memory) (key : SpaceKey) (at n : ℕ) (own : TableUse × ℕ) : Type 0 where
@@ -102,7 +106,7 @@ pub record IsOwn (memory : Memory) (key : SpaceKey) (at n : ℕ) (own : TableUse
   pub frame : own.0.frame ≡ page_of at
   pub slot : IsWrittenSlot at n own.1
 
--- the steps in which a kept space is mended after a write: each touched table is read anew, and each written entry of
+-- the steps in which a kept space is updated after a write: each touched table is read again, and each written entry of
 -- each use of the written frame
 pub record MendsWithin (memory : Memory) (key : SpaceKey) (at n steps : ℕ) : Type 0 where
   pub touched : ℕ

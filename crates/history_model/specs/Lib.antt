@@ -1,7 +1,3 @@
-pub mod Statuses
-pub mod Log
-pub mod Numbers
-pub mod LogLine
 pub mod History
 pub mod Invalidations
 pub mod CachedTranslations
@@ -9,11 +5,8 @@ pub mod StaleTranslations
 pub mod Asking
 pub mod Refusals
 pub mod Answering
-pub mod Texts
-pub mod Outcome
 pub mod KeptSpaces
 pub mod Horizons
 pub mod Costs
-pub mod WorkedExamples
 pub mod WorkedHistories
 pub mod WorkedTranslations

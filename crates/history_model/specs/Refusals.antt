@@ -6,6 +6,7 @@ use Rattle.paging_model.specs.Memory.{Memory}
 use Rattle.paging_model.specs.Registers.{la57, pcide}
 use Rattle.paging_model.specs.RegisterRules.{check_of, change_of}
 use Rattle.paging_model.specs.LinearAddress.{is_canonical}
+use Rattle.paging_model.specs.declared.registers.Processor.{Processor}
 use Rattle.paging_model.specs.declared.registers.RegRule.{RegRule}
 use Rattle.paging_model.specs.declared.registers.Regs.{Regs}
 use Rattle.history_model.specs.History.{History, begun, next, after_event, memory, machine, page_of, pages, regs, regs_in}
@@ -36,7 +37,7 @@ if_illegal (Ok _) = None
 if_illegal (Err rule) = Some (Illegal rule)
 
 -- there are no processors
-abbrev pub is_empty : List (ℕ × Regs) → Bool
+abbrev pub is_empty : List Processor → Bool
 is_empty [] = true
 is_empty (one ∷ rest) = false
 
@@ -58,12 +59,12 @@ abbrev pub if_unknown : ℕ → Option Regs → Option StepFault
 if_unknown cpu None = Some (NoProcessor cpu)
 if_unknown cpu (Some known) = None
 
--- what a reason is for the registers of a known processor
+-- the reason that the registers of a known processor give
 abbrev pub of_known : ℕ → (Regs → Option StepFault) → Option Regs → Option StepFault
 of_known cpu reason None = Some (NoProcessor cpu)
 of_known cpu reason (Some known) = reason known
 
--- types are 0 to 3; PCIDs have 12 bits, and without CR4.PCIDE types 0 and 1 want PCID 0; type 0 wants a canonical address
+-- types are 0 to 3; PCIDs have 12 bits, and without CR4.PCIDE types 0 and 1 need PCID 0; type 0 needs a canonical address
 abbrev pub invpcid_refusal : ℕ → ℕ → ℕ → Regs → Option StepFault
 invpcid_refusal kind pcid address known =
     if nat_lt 3 kind then Some BadType else
@@ -75,7 +76,7 @@ abbrev pub first_unknown : Memory → ℕ → ℕ → Option ℕ
 first_unknown known a zero = None
 first_unknown known a (suc n) = if is_some (known a) then first_unknown known (a + 1) n else Some a
 
--- the number stands in the list
+-- the number is in the list
 abbrev pub is_among : ℕ → List ℕ → Bool
 is_among n [] = false
 is_among n (one ∷ rest) = n == one || is_among n rest
@@ -107,7 +108,7 @@ rule_refusal history (event.Ask cpu access pointer) = if_unknown cpu (regs histo
 rule_refusal history (event.List cpu) = if_unknown cpu (regs history cpu)
 rule_refusal history (event.Point all) = None
 
--- why an event is refused in a moment; want of memory isn't in it
+-- why an event is refused in a moment; that memory ran out is no such reason
 abbrev pub refusal : History → Event → Option StepFault
 refusal history happened = if is_built happened then rule_refusal history happened else Some NotBuilt
 

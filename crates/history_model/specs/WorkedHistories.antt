@@ -1,19 +1,20 @@
 -- Examples that pin the moments of a log and what its events remove: their values were worked out by hand.
 -- The small core: a PML4 at 0x1000, a PDPT at 0x2000, a PD at 0x3000 and a PT at 0x4000, which maps the page 0x0 to 0x5000
 -- and the page 0x1000, without writes, to 0x6000. Of its memory only those entries are known, and the one at 0x4010.
-use Rattle.std.specs.Prelude.{◌≡◌, ℕ, Bool, true, false, Some, None, Ok, Err, List, [], ◌∷◌}
+use Rattle.std.specs.Prelude.{◌≡◌, ℕ, ◌/◌, ◌%◌, Bool, true, false, Some, None, Ok, Err, List, [], ◌∷◌}
 use Rattle.paging_model.specs.Memory.{Extent}
 use Rattle.paging_model.specs.Registers.{machine_of}
 use Rattle.paging_model.specs.WorkedExamples.{small_regs}
 use Rattle.paging_model.specs.WorkedSpaces.{small_machine, small_settings}
 use Rattle.paging_model.specs.declared.access.Access.TheVariants as access
 use Rattle.paging_model.specs.declared.access.Rule.TheVariants as rule
+use Rattle.paging_model.specs.declared.registers.Processor.{Processor}
 use Rattle.paging_model.specs.declared.registers.RegChange.TheVariants as change
 use Rattle.paging_model.specs.declared.registers.RegRule.TheVariants as register
 use Rattle.paging_model.specs.declared.registers.Regs.{Regs}
 use Rattle.paging_model.specs.declared.spaces.SpaceKey.{SpaceKey}
-use Rattle.history_model.specs.Asking.{asked}
-use Rattle.history_model.specs.History.{Start, History, begun, next, after_event, time, memory, machine, processors, regs, pages, pcid, been, home}
+use Rattle.history_model.specs.Asking.{answer_to_ask}
+use Rattle.history_model.specs.History.{Start, History, begun, next, after_event, time, memory, machine, processors, regs, pages, pcid, visited_pcids, last_root}
 use Rattle.history_model.specs.Horizons.{horizon, least, changes, frames}
 use Rattle.history_model.specs.Invalidations.{kills, loses_all}
 use Rattle.history_model.specs.KeptSpaces.{listed_first, slots_written}
@@ -25,25 +26,32 @@ use Rattle.history_model.specs.declared.events.Event.TheVariants as event
 use Rattle.history_model.specs.declared.faults.StepFault.TheVariants as fault
 
 -- the eight bytes of an entry below 0x10000
-abbrev pub entry_bytes : ℕ → ℕ → List ℕ
-entry_bytes low high = low ∷ high ∷ 0 ∷ 0 ∷ 0 ∷ 0 ∷ 0 ∷ 0 ∷ []
+abbrev pub entry_bytes : ℕ → List ℕ
+entry_bytes value = value % 256 ∷ value / 256 ∷ 0 ∷ 0 ∷ 0 ∷ 0 ∷ 0 ∷ 0 ∷ []
+
+-- an entry alone is known at a physical address
+abbrev pub entry_in : ℕ → ℕ → Extent
+entry_in at value = record { start = at; bytes = entry_bytes value }
 
 abbrev pub small_extents : List ℕ → List ℕ → List Extent
 small_extents first second =
-    record { start = 0x1000; bytes = entry_bytes 0x07 0x20 } ∷ record { start = 0x2000; bytes = entry_bytes 0x07 0x30 }
-    ∷ record { start = 0x3000; bytes = entry_bytes 0x07 0x40 } ∷ record { start = 0x4000; bytes = first }
-    ∷ record { start = 0x4008; bytes = second } ∷ record { start = 0x4010; bytes = entry_bytes 0 0 } ∷ []
+    entry_in 0x1000 0x2007 ∷ entry_in 0x2000 0x3007 ∷ entry_in 0x3000 0x4007 ∷ record { start = 0x4000; bytes = first }
+    ∷ record { start = 0x4008; bytes = second } ∷ entry_in 0x4010 0 ∷ []
+
+-- a processor by its number
+abbrev pub processor : ℕ → Regs → Processor
+processor cpu regs = record { number = cpu; regs = regs }
 
 abbrev pub small_start : Start
 small_start = record {
-  extents = small_extents (entry_bytes 0x07 0x50) (entry_bytes 0x05 0x60);
+  extents = small_extents (entry_bytes 0x5007) (entry_bytes 0x6005);
   stated = true;
   machine = small_machine;
-  processors = (0, small_regs) ∷ (1, small_regs) ∷ [];
+  processors = processor 0 small_regs ∷ processor 1 small_regs ∷ [];
 }
 
 abbrev pub zeros : List ℕ
-zeros = entry_bytes 0 0
+zeros = entry_bytes 0
 
 -- keys: a translation of the page 0x1000, a PDE below address 0, the translation made global, and under PCID 1
 abbrev pub page_key : ℕ → Bool → CacheKey
@@ -73,7 +81,8 @@ pub record OfInvalidations : Type 0 where
   pub invlpg_of_no_address : Removes (event.Invlpg 0 0x800000000000) small_regs false false false false
   pub one_address : Removes (event.Invpcid 0 0 0 0x1000) small_regs true true false false
   pub one_address_elsewhere : Removes (event.Invpcid 0 0 0 0x40000000) small_regs false false false false
-  pub one_address_of_none : kills (event.Invpcid 0 0 0 0x800000000000) 0 small_regs (record { pcid = 0; level = 5; prefix = 0; leaf = false; global = false }) ≡ false
+  pub one_address_of_none : kills (event.Invpcid 0 0 0 0x800000000000) 0 small_regs
+      (record { pcid = 0; level = 5; prefix = 0; leaf = false; global = false }) ≡ false
   pub one_pcid : Removes (event.Invpcid 0 1 0 0x0) small_regs true true false false
   pub other_pcid : Removes (event.Invpcid 0 1 1 0x0) with_pcids false false false true
   pub everything : Removes (event.Invpcid 0 2 0 0x0) small_regs true true true true
@@ -100,7 +109,9 @@ pub record OfInvalidations : Type 0 where
 
 -- processor 0 turns PCIDs on, goes to PCID 1, and then to PCID 2 with another root
 abbrev pub three_pcids : History
-three_pcids = next (next (next (begun small_start) (event.Set 0 (change.Cr4 0x20020))) (event.Set 0 (change.Cr3 0x1001))) (event.Set 0 (change.Cr3 0x8000000000008002))
+three_pcids =
+    next (next (next (begun small_start) (event.Set 0 (change.Cr4 0x20020)))
+    (event.Set 0 (change.Cr3 0x1001))) (event.Set 0 (change.Cr3 0x8000000000008002))
 
 abbrev pub two_writes : History
 two_writes = next (next (begun small_start) (event.Write 0x4000 (1 ∷ 2 ∷ []))) (event.Write 0x4001 (3 ∷ []))
@@ -116,14 +127,17 @@ pub record OfMoments : Type 0 where
   pub other_cpu : regs three_pcids 1 ≡ Some small_regs
   pub stranger : regs three_pcids 2 ≡ None
   pub last_pcid : pcid three_pcids 0 ≡ Some 2
-  pub all_pcids : been three_pcids 0 ≡ 0 ∷ 1 ∷ 2 ∷ []
-  pub first_root : home three_pcids 0 1 ≡ Some 0x1000
-  pub last_root : home three_pcids 0 2 ≡ Some 0x8000
-  pub no_home : home three_pcids 0 3 ≡ None
-  pub by_number : processors (after_event (event.Cpu 0 with_pcids) (begun (record small_start { processors = (1, small_regs) ∷ [] }))) ≡ (0, with_pcids) ∷ (1, small_regs) ∷ []
+  pub all_pcids : visited_pcids three_pcids 0 ≡ 0 ∷ 1 ∷ 2 ∷ []
+  pub first_root : last_root three_pcids 0 1 ≡ Some 0x1000
+  pub latest_root : last_root three_pcids 0 2 ≡ Some 0x8000
+  pub no_root : last_root three_pcids 0 3 ≡ None
+  pub by_number : processors (after_event (event.Cpu 0 with_pcids)
+      (begun (record small_start { processors = processor 1 small_regs ∷ [] })))
+      ≡ processor 0 with_pcids ∷ processor 1 small_regs ∷ []
   pub stated_machine : machine (after_event (event.Machine (machine_of 46 false)) (begun small_start)) ≡ machine_of 46 false
   pub after_a_state_line : time (after_event (event.Machine (machine_of 46 false)) (begun small_start)) ≡ 0
-  pub after_an_event : after_event (event.Ask 0 access.Ur 0) (begun small_start) ≡ next (begun small_start) (event.Ask 0 access.Ur 0)
+  pub after_an_event : after_event (event.Ask 0 access.Ur 0) (begun small_start)
+      ≡ next (begun small_start) (event.Ask 0 access.Ur 0)
 
 pub record OfHorizons : Type 0 where
   pub at_first : horizon three_pcids 0 ≡ 0
@@ -134,18 +148,20 @@ pub record OfHorizons : Type 0 where
   pub least_of_both : least (next (next three_pcids (event.Invpcid 0 2 0 0)) (event.Invpcid 1 2 0 0)) ≡ 4
   pub without_processors : least (next (begun (record small_start { processors = [] })) (event.Write 0x4000 zeros)) ≡ 1
   pub two_changes : changes two_writes ≡ 2
-  pub across_places : changes (next (begun small_start) (event.Write 0x4004 zeros)) ≡ 2
+  pub across_slots : changes (next (begun small_start) (event.Write 0x4004 zeros)) ≡ 2
   pub one_page : frames two_writes ≡ 1
   pub none_since : changes (next (next two_writes (event.Invpcid 0 2 0 0)) (event.Invpcid 1 2 0 0)) ≡ 0
 
 pub record OfRefusals : Type 0 where
   pub not_built : refusal (begun small_start) (event.Invpcid 0 4 0 0) ≡ Some fault.NotBuilt
   pub second_machine : refusal (begun small_start) (event.Machine small_machine) ≡ Some fault.LateState
-  pub machine_after_a_processor : refusal (begun (record small_start { stated = false })) (event.Machine small_machine) ≡ Some fault.LateState
+  pub machine_after_a_processor : refusal (begun (record small_start { stated = false })) (event.Machine small_machine)
+      ≡ Some fault.LateState
   pub late_processor : refusal three_pcids (event.Cpu 2 small_regs) ≡ Some fault.LateState
   pub double_processor : refusal (begun small_start) (event.Cpu 1 small_regs) ≡ Some (fault.DoubleProcessor 1)
   pub processor : refusal (begun small_start) (event.Cpu 2 small_regs) ≡ None
-  pub illegal_processor : refusal (begun small_start) (event.Cpu 2 (record small_regs { cr0 = 0 })) ≡ Some (fault.Illegal register.PagingOff)
+  pub illegal_processor : refusal (begun small_start) (event.Cpu 2 (record small_regs { cr0 = 0 }))
+      ≡ Some (fault.Illegal register.PagingOff)
   pub illegal_change : refusal three_pcids (event.Set 0 (change.Cr4 0x1020)) ≡ Some (fault.Illegal register.La57Changed)
   pub stranger : refusal three_pcids (event.Ask 3 access.Ur 0) ≡ Some (fault.NoProcessor 3)
   pub known : refusal three_pcids (event.Ask 1 access.Ur 0) ≡ None
@@ -155,7 +171,8 @@ pub record OfRefusals : Type 0 where
   pub pcid_of_no_use : rule_refusal (begun small_start) (event.Invpcid 0 2 1 0) ≡ None
   pub not_canonical : rule_refusal (begun small_start) (event.Invpcid 0 0 0 0x800000000000) ≡ Some fault.NotCanonical
   pub unknown : rule_refusal (begun small_start) (event.Write 0x4014 zeros) ≡ Some (fault.Unknown 0x4018)
-  pub crosses : rule_refusal (begun (record small_start { extents = record { start = 0x1ffc; bytes = zeros } ∷ [] })) (event.Write 0x1ffc zeros) ≡ Some (fault.Crosses 0x2000)
+  pub crosses : rule_refusal (begun (record small_start { extents = record { start = 0x1ffc; bytes = zeros } ∷ [] }))
+      (event.Write 0x1ffc zeros) ≡ Some (fault.Crosses 0x2000)
   pub write : rule_refusal (begun small_start) (event.Write 0x4008 zeros) ≡ None
 
 -- of a space at a root
@@ -163,16 +180,21 @@ abbrev pub space_at : ℕ → SpaceKey
 space_at root = record { root = root; settings = small_settings }
 
 pub record OfKeptSpaces : Type 0 where
-  pub listed_again : listed_first (space_at 0x1000) (space_at 0x2000 ∷ space_at 0x1000 ∷ []) ≡ space_at 0x1000 ∷ space_at 0x2000 ∷ []
-  pub other_settings : listed_first (space_at 0x1000) (record (space_at 0x1000) { settings = record small_settings { nxe = false } } ∷ [])
+  pub listed_again : listed_first (space_at 0x1000) (space_at 0x2000 ∷ space_at 0x1000 ∷ [])
+      ≡ space_at 0x1000 ∷ space_at 0x2000 ∷ []
+  pub other_settings : listed_first (space_at 0x1000)
+      (record (space_at 0x1000) { settings = record small_settings { nxe = false } } ∷ [])
       ≡ space_at 0x1000 ∷ record (space_at 0x1000) { settings = record small_settings { nxe = false } } ∷ []
-  pub places : slots_written 0x4004 8 ≡ 2
+  pub slots : slots_written 0x4004 8 ≡ 2
   pub accepted : LeadsTo (begun small_start) three_pcids
 
 pub record OfAsking : Type 0 where
-  pub granted : asked (memory (begun small_start)) small_machine small_regs access.Ur 0x1234 ≡ Ok 0x6234
-  pub rule_of_the_page : asked (memory (begun small_start)) small_machine small_regs access.Uw 0x1234 ≡ Err (why.Denied rule.Write)
-  pub absent : asked (memory (begun small_start)) small_machine small_regs access.Ur 0x2000 ≡ Err (why.Absent 1)
-  pub unknown : asked (memory (begun small_start)) small_machine small_regs access.Ur 0x3000 ≡ Err (why.Unknown 1)
-  pub not_canonical : asked (memory (begun small_start)) small_machine small_regs access.Ur 0x800000000000 ≡ Err why.NotCanonical
-  pub lass : asked (memory (begun small_start)) small_machine (record small_regs { cr4 = 0x8000020 }) access.Sx 0 ≡ Err why.Lass
+  pub granted : answer_to_ask (memory (begun small_start)) small_machine small_regs access.Ur 0x1234 ≡ Ok 0x6234
+  pub rule_of_the_page : answer_to_ask (memory (begun small_start)) small_machine small_regs access.Uw 0x1234
+      ≡ Err (why.Denied rule.Write)
+  pub absent : answer_to_ask (memory (begun small_start)) small_machine small_regs access.Ur 0x2000 ≡ Err (why.Absent 1)
+  pub unknown : answer_to_ask (memory (begun small_start)) small_machine small_regs access.Ur 0x3000 ≡ Err (why.Unknown 1)
+  pub not_canonical : answer_to_ask (memory (begun small_start)) small_machine small_regs access.Ur 0x800000000000
+      ≡ Err why.NotCanonical
+  pub lass : answer_to_ask (memory (begun small_start)) small_machine (record small_regs { cr4 = 0x8000020 }) access.Sx 0
+      ≡ Err why.Lass

@@ -1,10 +1,10 @@
-//! The answers to the events of a log.
+//! The answers to events.
 
 use crate::caches::Findings;
 use paging_model::access::Rule;
 use paging_model::spaces::Areas;
 
-/// Why an access is denied, in the order in which they are told. A number is the level at which the walk stopped, 5 to 1.
+/// Why an access is denied: the first reason in this order. A number is the level at which the walk stopped, 5 to 1.
 #[derive(Clone, Copy, Debug, PartialEq, Eq)]
 pub enum Why {
     /// The pointer, or its address, isn't canonical.

@@ -1,11 +1,11 @@
-//! What is cached of the paging structures, and what a point finds of it.
+//! Cached entries as invalidations test them, and what a point finds.
 
 ghost use Rattle.std.specs.Prelude.{◌≡◌};
 
 use paging_model::access_sets::Rights;
 use std::marker::Model;
 
-/// What an invalidation goes by, of one cached entry.
+/// What an invalidation tests of one cached entry.
 #[derive(Clone, Copy, Debug, PartialEq, Eq)]
 pub struct CacheKey {
     /// The PCID under which the entry was made.
@@ -24,7 +24,9 @@ pub struct CacheKey {
 /// A translation that a processor may use and that its present tables don't justify.
 #[derive(Clone, Copy, Debug, PartialEq, Eq)]
 pub struct Finding {
+    /// The processor's number.
     pub cpu: u32,
+    /// The PCID under which it may be used.
     pub pcid: u16,
     /// The first address of the 4-KByte page.
     pub page: u64,
@@ -34,7 +36,7 @@ pub struct Finding {
     pub excess: Rights,
 }
 
-/// Findings, by rising processor and PCID.
+/// Findings, ascending by processor and then by PCID.
 #[derive(Debug, Drop)]
 pub struct Findings {
     items: Vec<Finding>,
@@ -50,14 +52,14 @@ impl Model for Findings {
 }
 
 impl Findings {
-    /// Takes the findings over.
+    /// Takes ownership of the findings.
     pub fn from_vec(items: Vec<Finding>) -> Findings
         ensures { result ≡ items.items }
     {
         Findings { items }
     }
 
-    /// Lends the findings.
+    /// Borrows the findings.
     pub fn as_slice(&self) -> &[Finding]
         ensures { result.now ≡ self.now }
     {

@@ -1,7 +1,7 @@
-//! The events that the lines of a log spell.
+//! The events of a log.
 
 use paging_model::access::Access;
-use paging_model::byte_lists::Payload;
+use paging_model::byte_strings::Payload;
 use paging_model::registers::{Machine, RegChange, Regs};
 
 /// An event: one line of the log that isn't empty and no comment. A processor is named by its number.
@@ -9,7 +9,7 @@ use paging_model::registers::{Machine, RegChange, Regs};
 pub enum Event {
     /// The machine. A state line: it belongs to the moment before the first event.
     Machine(Machine),
-    /// A processor and its registers. A state line too.
+    /// A processor and its registers. A state line: it belongs to the moment before the first event.
     Cpu(u32, Regs),
     /// Bytes are written to physical memory.
     Write {
@@ -43,8 +43,8 @@ pub enum Event {
     List {
         cpu: u32,
     },
-    /// Whether some processor may still use a translation that the present tables don't justify: under each PCID that
-    /// it has been in, or under its current one alone.
+    /// Whether some processor may still use a translation that the present tables don't justify: under all PCIDs that
+    /// it visited, or under its current one alone.
     Point {
         all: bool,
     },

@@ -1,9 +1,9 @@
-//! What holds after a core and a list of accepted log lines, as types and definitions.
+//! What holds after a core and a list of accepted events, as types and definitions.
 //!
-//! The log's lines and the events that they spell, the moments that the events lead through, what an event removes of
-//! what a processor holds, what a processor may hold and use and what of it is stale, why an event is refused and what
-//! the answer to it is, the text of an answer, and the lines and the status of a whole log. The definitions stand in
-//! `specs/`, one subject a file.
+//! The moments that events lead through (`History`); why an event is refused in a moment (`Refusals`), and what the
+//! answer to it is (`Answering`); what a processor may hold and use of the paging structures (`CachedTranslations`),
+//! what an event removes of that (`Invalidations`), and what of it is stale (`StaleTranslations`); how many steps an
+//! event may take (`Costs`). The definitions stand in `specs/`, one subject a file.
 #![tactic(auto)]
 
 pub mod answers;
@@ -11,5 +11,4 @@ pub mod caches;
 pub mod events;
 pub mod examples;
 pub mod faults;
-pub mod statuses;
 pub mod worked_translations;

@@ -2,4 +2,4 @@ use Rattle.history_laws.proofs.HorizonLaws.{horizon-spared}
 use Rattle.history_laws.proofs.nothing_is_older_than_the_horizon.Goals as goal
 
 pub returns : goal.returns
-returns c p pcid x history level held since = horizon-spared since.spared
+returns c history p pcid level x held since = horizon-spared since.spared

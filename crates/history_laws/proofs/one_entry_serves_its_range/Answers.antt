@@ -2,4 +2,4 @@ use Rattle.history_laws.proofs.PrefixLaws.{held-same}
 use Rattle.history_laws.proofs.one_entry_serves_its_range.Goals as goal
 
 pub returns : goal.returns
-returns c p pcid x y history level held same may_hold = held-same same may_hold
+returns c history p pcid level x y held same may_hold = held-same same may_hold

@@ -9,7 +9,7 @@ pub returns : goal.returns
 returns c = record {
   listed_again = refl;
   other_settings = refl;
-  places = refl;
+  slots = refl;
   accepted =
       goes_on (event.Set 0 (change.Cr3 0x8000000000008002)) (goes_on (event.Set 0 (change.Cr3 0x1001))
       (goes_on (event.Set 0 (change.Cr4 0x20020)) begins refl) refl) refl;

@@ -1,5 +1,5 @@
 -- The page is made at the first moment, and no write removes it.
-use Rattle.history_model.specs.WorkedTranslations.{rewritten}
+use Rattle.history_model.specs.WorkedTranslations.{with_first_entry}
 use Rattle.std.proofs.Common.{ℕ, false, refl, inl, inr, arith}
 use Rattle.paging_model.specs.AccessRights.{is_granted}
 use Rattle.paging_model.specs.Entries.{entry_of, is_reserved}
@@ -8,16 +8,16 @@ use Rattle.paging_model.specs.Memory.{entry_at}
 use Rattle.paging_model.specs.Pointers.{aim_of}
 use Rattle.paging_model.specs.Walking.{walk, walk_from}
 use Rattle.paging_model.specs.declared.access.Access.TheVariants.{Uw}
-use Rattle.history_model.specs.CachedTranslations.{MayHold, MayUse, kept, at_root, below, made}
+use Rattle.history_model.specs.CachedTranslations.{MayHold, MayUse, kept, at_root, below, fill_of}
 use Rattle.history_model.specs.Invalidations.{kills}
 use Rattle.history_model.specs.WorkedTranslations.{two_pages, page_at}
 use Rattle.history_model.proofs.worked_translations.excess.Goals as goal
 
-held_first : MayHold 0 0 0 two_pages 1 (page_at 0x5000)
-unfolding entry_of is_reserved entry_at made
+held_first : MayHold two_pages 0 0 1 0 (page_at 0x5000)
+unfolding entry_of is_reserved entry_at fill_of
 held_first = below _ refl refl (below _ refl refl (below _ refl refl (at_root refl refl refl refl) refl refl) refl refl) refl refl
 
-may_use : (value : ℕ) → MayUse (rewritten value) 0 0 0 1 (page_at 0x5000)
+may_use : (value : ℕ) → MayUse (with_first_entry value) 0 0 1 0 (page_at 0x5000)
 unfolding kills
 may_use value = record { leaf = refl; under = 0; reaches = inl refl; held_there = kept _ held_first refl refl }
 

@@ -8,8 +8,8 @@ use Rattle.paging_model.specs.WorkedExamples.{small_regs}
 use Rattle.paging_model.specs.declared.registers.Regs.{Regs}
 use Rattle.history_model.specs.History.{start_of}
 use Rattle.history_model.specs.Invalidations.{kills}
-use Rattle.history_model.specs.CachedTranslations.{Held, MayHold, MayUse, kept, at_root, below, made}
-use Rattle.history_model.specs.WorkedTranslations.{with_global, unmapped, in_other_pcid, page_at}
+use Rattle.history_model.specs.CachedTranslations.{Held, MayHold, MayUse, kept, at_root, below, fill_of}
+use Rattle.history_model.specs.WorkedTranslations.{with_global, without_pages, in_other_pcid, page_at}
 use Rattle.history_model.proofs.HeldEntries.{table_at, held_at_first, held_at_next}
 use Rattle.history_model.proofs.worked_translations.globals.Goals as goal
 
@@ -19,17 +19,17 @@ tagged = record small_regs { cr4 = 0x200a0 }
 later : Regs
 later = record tagged { cr3 = 0x1001 }
 
-none_at_first : (x level : ℕ) (held : Held) → MayHold 0 1 x (with_global 0x200a0) level held → ⊥
+none_at_first : (x level : ℕ) (held : Held) → MayHold (with_global 0x200a0) 0 1 level x held → ⊥
 unfolding tagged
 none_at_first x = held_at_first 0 1 x (start_of (with_global 0x200a0)) tagged [] refl (λ e. absurd (omega (arith, e)))
 
 tables : List (ℕ × Held)
 tables = (4, table_at 0x2000) ∷ (3, table_at 0x3000) ∷ (2, table_at 0x4000) ∷ []
 
-tables_alone : (level : ℕ) (held : Held) → MayHold 0 1 0x1000 in_other_pcid level held → IsIn (level, held) tables
-unfolding entry_of is_reserved entry_at made tagged later tables
+tables_alone : (level : ℕ) (held : Held) → MayHold in_other_pcid 0 1 level 0x1000 held → IsIn (level, held) tables
+unfolding entry_of is_reserved entry_at fill_of tagged later tables
 tables_alone =
-    held_at_next 0 1 0x1000 unmapped _ tagged later [] tables refl
+    held_at_next 0 1 0x1000 without_pages _ tagged later [] tables refl
     (held_at_next 0 1 0x1000 _ _ tagged tagged [] [] refl
     (held_at_next 0 1 0x1000 _ _ tagged tagged [] [] refl (none_at_first 0x1000) tt refl (λ e. absurd (omega (arith, e))))
     tt refl (λ e. absurd (omega (arith, e))))
@@ -42,18 +42,18 @@ no_page held (inr (inl e)) = absurd (omega (arith, ap (λ one. one.0) e))
 no_page held (inr (inr (inl e))) = absurd (omega (arith, ap (λ one. one.0) e))
 no_page held (inr (inr (inr e))) = e
 
-not_elsewhere : MayUse in_other_pcid 0 1 0x1000 1 (page_at 0x6000) → ⊥
+not_elsewhere : MayUse in_other_pcid 0 1 1 0x1000 (page_at 0x6000) → ⊥
 not_elsewhere may =
     elim may.reaches [
-      | inl e ↦ no_page _ (tables_alone 1 _ (subst (λ c. MayHold 0 c 0x1000 in_other_pcid 1 (page_at 0x6000)) e may.held_there))
+      | inl e ↦ no_page _ (tables_alone 1 _ (subst (λ c. MayHold in_other_pcid 0 c 1 0x1000 (page_at 0x6000)) e may.held_there))
       | inr g ↦ absurd (false≢true g.0)
     ]
 
 untagged : List (ℕ × Held)
 untagged = (4, table_at 0x2000) ∷ (3, table_at 0x3000) ∷ (2, table_at 0x4000) ∷ (1, page_at 0x5000) ∷ []
 
-all_untagged : (level : ℕ) (held : Held) → MayHold 0 0 0 (with_global 0x20) level held → IsIn (level, held) untagged
-unfolding entry_of is_reserved entry_at made untagged
+all_untagged : (level : ℕ) (held : Held) → MayHold (with_global 0x20) 0 0 level 0 held → IsIn (level, held) untagged
+unfolding entry_of is_reserved entry_at fill_of untagged
 all_untagged =
     held_at_first 0 0 0 (start_of (with_global 0x20)) (record small_regs { cr4 = 0x20 }) untagged refl
     (λ _. (inl refl, (λ _. inr (inl refl), (λ _. inr (inr (inl refl)), (λ _. inr (inr (inr (inl refl))), (λ e. absurd (false≢true (sym e)), tt))))))
@@ -67,7 +67,7 @@ none_global held (inr (inr (inr (inl e)))) = ap (λ one. one.1.global) e
 none_global held (inr (inr (inr (inr e)))) = absurd e
 
 pub returns : goal.returns
-unfolding entry_of is_reserved entry_at made kills
+unfolding entry_of is_reserved entry_at fill_of kills
 returns c = record {
   everywhere = record {
     leaf = refl;

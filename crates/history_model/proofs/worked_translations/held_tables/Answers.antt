@@ -3,12 +3,12 @@ use Rattle.std.proofs.Common.{refl}
 use Rattle.paging_model.specs.Entries.{entry_of, is_reserved}
 use Rattle.paging_model.specs.Memory.{entry_at}
 use Rattle.paging_model.specs.Walking.{walk, walk_from}
-use Rattle.history_model.specs.CachedTranslations.{kept, at_root, below, made}
+use Rattle.history_model.specs.CachedTranslations.{kept, at_root, below, fill_of}
 use Rattle.history_model.specs.Invalidations.{kills}
 use Rattle.history_model.proofs.worked_translations.held_tables.Goals as goal
 
 pub returns : goal.returns
-unfolding entry_of is_reserved entry_at walk walk_from made kills
+unfolding entry_of is_reserved entry_at walk walk_from fill_of kills
 returns c = record {
   first = refl;
   unlinked = refl;
