@@ -1,4 +1,4 @@
--- A core that a file states has few processors, told apart by their numbers, each allowed by the machine.
+-- A core that a file states has few processors, each with a number of its own, and allowed by the machine.
 use Rattle.std.proofs.Common.{◌≡◌, ◌≢◌, ℕ, ◌<◌, Bool, true, false, cond, List, [], ◌∷◌, length, get_or, Option, Some, None, Result, Ok, Err, refl, subst, arith, inl, inr, length-append}
 use Rattle.std.specs.Prelude.{◌⊎◌, ◌==◌, not, nat_le}
 use Rattle.std.specs.List.{list_any}
@@ -15,12 +15,12 @@ use Rattle.elf_core.specs.FileHeader.{file_header_check, e_phnum}
 use Rattle.elf_core.specs.ProgramHeaders.{program_header, is_load, is_note, segment_of, notes_of}
 use Rattle.elf_core.specs.Notes.{NoteParts, all_notes}
 use Rattle.elf_core.specs.ProcessorLists.{has_number}
-use Rattle.elf_core.specs.StateNotes.{is_state_note, is_machine, machine_stated, number_at, regs_at, has_zeros, allowed, processor_stated, of_machine, of_processor, statement_of}
-use Rattle.elf_core.specs.Cores.{blank_core, with_segment, with_statement, after_statement, after_note, after_notes, after_header, after_headers, numbers_from, core_of, IsConsistent}
+use Rattle.elf_core.specs.StateNotes.{is_state_note, is_machine, machine_stated, processor_number_at, regs_at, has_zeros, if_allowed, processor_stated, of_machine, of_processor, statement_of}
+use Rattle.elf_core.specs.Cores.{blank_core, with_segment, with_statement, after_statement, after_note, after_notes, after_header, after_headers, indices_from, core_of, IsConsistent}
 use Rattle.elf_core.specs.declared.core_file.Core.{Core}
-use Rattle.elf_core.specs.declared.processors.Processor.{Processor}
-use Rattle.elf_core.specs.declared.state_notes.Statement.{Statement}
-use Rattle.elf_core.specs.declared.state_notes.Statement.TheVariants as statement
+use Rattle.paging_model.specs.declared.registers.Processor.{Processor}
+use Rattle.elf_core.specs.declared.core_file.Statement.{Statement}
+use Rattle.elf_core.specs.declared.core_file.Statement.TheVariants as statement
 use Rattle.elf_core.specs.declared.faults.NoteRule.{NoteRule}
 use Rattle.elf_core.specs.declared.faults.NoteRule.TheVariants as rule
 
@@ -41,30 +41,30 @@ chosen : {A : Type 0} (b : Bool) (x y z : A) → cond b x y ≡ z → ((b ≡ tr
 chosen true x y z h = inl (refl, h)
 chosen false x y z h = inr (refl, h)
 
-abbrev done : {A E : Type 0} → A → Result A E
-done a = Ok a
+abbrev ok_of : {A E : Type 0} → A → Result A E
+ok_of a = Ok a
 
-abbrev failed : {A E : Type 0} → E → Result A E
-failed fault = Err fault
+abbrev err_of : {A E : Type 0} → E → Result A E
+err_of fault = Err fault
 
--- a value is told by its answer
-ok_is : {A E : Type 0} (a b : A) → done {E = E} a ≡ done b → a ≡ b
+-- the same answer has the same value
+ok_is : {A E : Type 0} (a b : A) → ok_of {E = E} a ≡ ok_of b → a ≡ b
 ok_is a b h = cc
 
 -- what each step keeps, all keep
-kept : {S A E : Type 0} (P : S → Type 0) (step : S → A → Result S E) → ((s : S) (item : A) (next : S) → P s → step s item ≡ Ok next → P next) → (items : List A) (s last : S) → P s → steps_over step items s ≡ Ok last → P last
+kept : {S A E : Type 0} (P : S → Type 0) (step : S → A → Result S E) → ((s : S) (item : A) (next : S) → P s → step s item ≡ Ok next → P next) → (items : List A) (s last : S) → P s → steps_over step s items ≡ Ok last → P last
 unfolding steps_over
 kept P step keeps [] s last holds h = subst P (ok_is s last h) holds
 kept P step keeps (item ∷ items) s last holds h =
-    let first = bind_ok (step s item) (steps_over step items) last h in
+    let first = bind_ok (step s item) (λ next. steps_over step next items) last h in
     kept P step keeps items first.0 last (keeps s item first.0 holds first.1) first.2
 
 -- ---- statements
 
--- the machine is stated ahead of all processors
-ahead : (core : Core) (description : List ℕ) (machine : Machine) → machine_stated core description ≡ Ok machine → length core.processors ≡ 0
+-- the machine is stated before all processors
+no_processors : (core : Core) (description : List ℕ) (machine : Machine) → machine_stated core description ≡ Ok machine → length core.processors ≡ 0
 unfolding machine_stated
-ahead core description machine h =
+no_processors core description machine h =
     let size = passed (not (length description == 8)) rule.Size _ machine h in
     let range = passed (not (is_machine description)) rule.Range _ machine size.1 in
     let late = passed (not (length core.processors == 0)) rule.Late _ machine range.1 in
@@ -75,7 +75,7 @@ record IsNew (core : Core) (processor : Processor) : Type 0 where
   room : length core.processors < 64
   regs : check_of core.machine processor.regs ≡ Ok tt
 
-allowed_is : (made processor : Processor) (answer : Result (Unit {0}) RegRule) → allowed made answer ≡ Ok processor → (made ≡ processor) × (answer ≡ Ok tt)
+allowed_is : (made processor : Processor) (answer : Result (Unit {0}) RegRule) → if_allowed made answer ≡ Ok processor → (made ≡ processor) × (answer ≡ Ok tt)
 allowed_is made processor (Ok u) h = (ok_is made processor h, refl)
 allowed_is made processor (Err broken) h = absurd cc
 
@@ -85,13 +85,13 @@ unfolding processor_stated
 new_processor core description processor h =
     let size = passed (not (length description == 64)) rule.Size _ processor h in
     let zeros = passed (not (has_zeros description)) rule.Zero _ processor size.1 in
-    let twice = passed (list_any (has_number (number_at description)) core.processors) rule.Twice _ processor zeros.1 in
+    let twice = passed (list_any (has_number (processor_number_at description)) core.processors) rule.Twice _ processor zeros.1 in
     let room = passed (nat_le 64 (length core.processors)) rule.TooMany _ processor twice.1 in
-    let made : Processor = record { number = number_at description; regs = regs_at description } in
+    let made : Processor = record { number = processor_number_at description; regs = regs_at description } in
     let fine = allowed_is made processor (check_of core.machine (regs_at description)) room.1 in
     subst (IsNew core) fine.0 (record { number = twice.0; room = leb-false 64 (length core.processors) room.0; regs = fine.1 })
 
--- a machine ahead of all processors, and a processor that is new
+-- a machine before all processors, and a processor that is new
 with_machine : (core : Core) (machine : Machine) → length core.processors ≡ 0 → IsConsistent core → IsConsistent (with_statement core (statement.Machine machine))
 with_machine core machine none consistent = record {
   few = consistent.few;
@@ -114,12 +114,12 @@ with_processor core processor new consistent = record {
   unstated = consistent.unstated;
 }
 
-never : {A E : Type 0} {fault : E} {a : A} → failed fault ≡ done a → ⊥
+never : {A E : Type 0} {fault : E} {a : A} → err_of fault ≡ ok_of a → ⊥
 never h = cc
 
 machine_keeps : (core : Core) (description : List ℕ) (stated : Statement) (answer : Result Machine NoteRule) → machine_stated core description ≡ answer → IsConsistent core → of_machine answer ≡ Ok stated → IsConsistent (with_statement core stated)
 machine_keeps core description stated (Ok machine) answered consistent h =
-    subst (λ s. IsConsistent (with_statement core s)) (ok_is (statement.Machine machine) stated h) (with_machine core machine (ahead core description machine answered) consistent)
+    subst (λ s. IsConsistent (with_statement core s)) (ok_is (statement.Machine machine) stated h) (with_machine core machine (no_processors core description machine answered) consistent)
 machine_keeps core description stated (Err broken) answered consistent h = absurd cc
 
 processor_keeps : (core : Core) (description : List ℕ) (stated : Statement) (answer : Result Processor NoteRule) → processor_stated core description ≡ answer → IsConsistent core → of_processor answer ≡ Ok stated → IsConsistent (with_statement core stated)
@@ -172,9 +172,9 @@ header_keeps bytes core number next consistent h =
       | inl load ↦
           let placed = bind_ok (segment_of bytes number header) (λ segment. Ok (with_segment core segment)) next load.1 in
           subst IsConsistent (ok_is (with_segment core placed.0) next placed.2) (segment_keeps core placed.0 consistent)
-      | inr other ↦ elim (chosen (is_note header) (notes_of bytes number header >>= λ notes. after_notes number (all_notes notes) core) (Ok core) (Ok next) other.1) [
+      | inr other ↦ elim (chosen (is_note header) (notes_of bytes number header >>= λ notes. after_notes number core (all_notes notes)) (Ok core) (Ok next) other.1) [
         | inl named ↦
-            let notes = bind_ok (notes_of bytes number header) (λ notes. after_notes number (all_notes notes) core) next named.1 in
+            let notes = bind_ok (notes_of bytes number header) (λ notes. after_notes number core (all_notes notes)) next named.1 in
             kept IsConsistent (after_note number) (note_keeps number) (all_notes notes.0) core next consistent notes.2
         | inr foreign ↦ subst IsConsistent (ok_is core next foreign.1) consistent
       ]
@@ -192,5 +192,5 @@ blank_is_consistent = record {
 pub core_is_consistent : (bytes : List ℕ) (core : Core) → core_of bytes ≡ Ok core → IsConsistent core
 unfolding core_of
 core_is_consistent bytes core h =
-    let checked = bind_ok (file_header_check bytes) (λ _. after_headers bytes (numbers_from 0 (e_phnum bytes)) blank_core) core h in
-    kept IsConsistent (after_header bytes) (header_keeps bytes) (numbers_from 0 (e_phnum bytes)) blank_core core blank_is_consistent checked.2
+    let checked = bind_ok (file_header_check bytes) (λ _. after_headers bytes blank_core (indices_from 0 (e_phnum bytes))) core h in
+    kept IsConsistent (after_header bytes) (header_keeps bytes) (indices_from 0 (e_phnum bytes)) blank_core core blank_is_consistent checked.2

@@ -27,14 +27,15 @@ e_type bytes = half_at bytes 16
 abbrev pub e_machine : List ℕ → ℕ
 e_machine bytes = half_at bytes 18
 
--- the place of the first program header
+-- the file offset of the first program header
 abbrev pub e_phoff : List ℕ → ℕ
 e_phoff bytes = xword_at bytes 32
 
--- the size of one program header, and their number
+-- the size of one program header
 abbrev pub e_phentsize : List ℕ → ℕ
 e_phentsize bytes = half_at bytes 54
 
+-- the count of program headers
 abbrev pub e_phnum : List ℕ → ℕ
 e_phnum bytes = half_at bytes 56
 
@@ -48,7 +49,7 @@ kind_check bytes =
     (if not (e_type bytes == 4) then Err FileType else
     (if not (e_machine bytes == 62) then Err FileMachine else Ok tt)))))
 
--- its program headers lie in the file; a number of 0xFFFF tells that their number stands elsewhere
+-- its program headers lie in the file; a count of 0xFFFF says that their count stands elsewhere
 unfoldable pub table_check : List ℕ → Result (Unit {0}) CoreFault
 table_check bytes =
     if not (e_phentsize bytes == 56) then Err HeaderSize else

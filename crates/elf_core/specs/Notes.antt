@@ -1,6 +1,7 @@
 -- Notes, one after another from the start of their segment. System V gABI, "Note Section"; fields of 4 bytes, each
 -- note, name and description at a multiple of 4.
-use Rattle.std.specs.Prelude.{ℕ, zero, suc, ◌+◌, ◌*◌, ◌/◌, ◌&&◌, ◌||◌, ◌==◌, nat_le, nat_lt, List, [], ◌∷◌, length, drop, slice_range, Bool, Option, Some, None, if◌then◌else◌}
+use Rattle.std.specs.Prelude.{ℕ, zero, suc, ◌+◌, ◌&&◌, ◌||◌, ◌==◌, nat_le, nat_lt, List, [], ◌∷◌, length, drop, slice_range, Bool, Option, Some, None, if◌then◌else◌}
+use Rattle.std.specs.Int.{next_multiple_of}
 use Rattle.elf_core.specs.Fields.{word_at}
 
 -- a note: its type, the name of its owner, and its description
@@ -9,10 +10,6 @@ pub record NoteParts : Type 0 where
   pub name : List ℕ
   pub description : List ℕ
 
--- the next multiple of 4
-abbrev pub aligned : ℕ → ℕ
-aligned place = (place + 3) / 4 * 4
-
 -- of the note that bytes begin with: namesz at 0 and descsz at 4
 abbrev pub name_size : List ℕ → ℕ
 name_size bytes = word_at bytes 0
@@ -20,17 +17,17 @@ name_size bytes = word_at bytes 0
 abbrev pub description_size : List ℕ → ℕ
 description_size bytes = word_at bytes 4
 
--- the name stands behind three fields, and the description behind the name
+-- the name stands after three fields, and the description after the name
 abbrev pub name_end : List ℕ → ℕ
 name_end bytes = 12 + name_size bytes
 
 abbrev pub description_start : List ℕ → ℕ
-description_start bytes = aligned (name_end bytes)
+description_start bytes = next_multiple_of (name_end bytes) 4
 
 abbrev pub description_end : List ℕ → ℕ
 description_end bytes = description_start bytes + description_size bytes
 
--- the name and the description lie in the segment; padding behind them may be missing
+-- the name and the description lie in the segment; padding after them may be missing
 abbrev pub is_whole : List ℕ → Bool
 is_whole bytes =
     nat_le (name_end bytes) (length bytes)
@@ -47,9 +44,9 @@ note_parts bytes = record {
 -- the note that bytes begin with, and the bytes from the next note on; none where it passes the segment's end
 unfoldable pub first_note : List ℕ → Option (NoteParts × List ℕ)
 first_note bytes =
-    if is_whole bytes then Some (note_parts bytes, drop (aligned (description_end bytes)) bytes) else None
+    if is_whole bytes then Some (note_parts bytes, drop (next_multiple_of (description_end bytes) 4) bytes) else None
 
--- a note and those behind it; none in a note's place tells that it passes the segment's end
+-- a note and those after it; a note that passes the segment's end is none, and the last
 abbrev pub note_before : (List ℕ → List (Option NoteParts)) → Option (NoteParts × List ℕ) → List (Option NoteParts)
 note_before others None = None ∷ []
 note_before others (Some note) = Some note.0 ∷ others note.1

@@ -1,6 +1,6 @@
--- Processors, told apart by their numbers.
+-- Processors by their numbers.
 use Rattle.std.specs.Prelude.{ℕ, ◌==◌, Bool}
-use Rattle.elf_core.specs.declared.processors.Processor.{Processor}
+use Rattle.paging_model.specs.declared.registers.Processor.{Processor}
 
 abbrev pub has_number : ℕ → Processor → Bool
 has_number number processor = processor.number == number

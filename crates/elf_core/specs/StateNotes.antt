@@ -12,10 +12,10 @@ use Rattle.elf_core.specs.Notes.{NoteParts}
 use Rattle.elf_core.specs.ProcessorLists.{has_number}
 use Rattle.elf_core.specs.declared.faults.NoteRule.{NoteRule}
 use Rattle.elf_core.specs.declared.faults.NoteRule.TheVariants as rule
-use Rattle.elf_core.specs.declared.processors.Processor.{Processor}
+use Rattle.paging_model.specs.declared.registers.Processor.{Processor}
 use Rattle.elf_core.specs.declared.core_file.Core.{Core}
-use Rattle.elf_core.specs.declared.state_notes.Statement.{Statement}
-use Rattle.elf_core.specs.declared.state_notes.Statement.TheVariants as statement
+use Rattle.elf_core.specs.declared.core_file.Statement.{Statement}
+use Rattle.elf_core.specs.declared.core_file.Statement.TheVariants as statement
 
 -- the owner's name of ten bytes
 abbrev pub owner : List ℕ
@@ -45,8 +45,8 @@ machine_stated core description =
 
 -- a processor, type 2, of 64 bytes: its number at 0, then CR0 at 8, CR3 at 16, CR4 at 24, EFER at 32, RFLAGS at 40,
 -- PKRU at 48 and PKRS at 52
-abbrev pub number_at : List ℕ → ℕ
-number_at description = word_at description 0
+abbrev pub processor_number_at : List ℕ → ℕ
+processor_number_at description = word_at description 0
 
 abbrev pub regs_at : List ℕ → Regs
 regs_at description = record {
@@ -64,18 +64,18 @@ abbrev pub has_zeros : List ℕ → Bool
 has_zeros description = word_at description 4 == 0 && xword_at description 56 == 0
 
 -- the processor, where the machine allows its registers
-abbrev pub allowed : Processor → Result (Unit {0}) RegRule → Result Processor NoteRule
-allowed processor (Ok _) = Ok processor
-allowed processor (Err broken) = Err (rule.Regs broken)
+abbrev pub if_allowed : Processor → Result (Unit {0}) RegRule → Result Processor NoteRule
+if_allowed processor (Ok _) = Ok processor
+if_allowed processor (Err broken) = Err (rule.Regs broken)
 
 -- the processor that a note states, or the first rule that the note breaks
 unfoldable pub processor_stated : Core → List ℕ → Result Processor NoteRule
 processor_stated core description =
     if not (length description == 64) then Err rule.Size else
     (if not (has_zeros description) then Err rule.Zero else
-    (if list_any (has_number (number_at description)) core.processors then Err rule.Twice else
+    (if list_any (has_number (processor_number_at description)) core.processors then Err rule.Twice else
     (if nat_le 64 (length core.processors) then Err rule.TooMany else
-    allowed (record { number = number_at description; regs = regs_at description })
+    if_allowed (record { number = processor_number_at description; regs = regs_at description })
     (check_of core.machine (regs_at description)))))
 
 abbrev pub of_machine : Result Machine NoteRule → Result Statement NoteRule

@@ -4,7 +4,7 @@ ghost use Rattle.std.specs.Prelude.{◌≡◌, ◌+◌, ◌*◌, ◌<◌, ◌≤
 ghost use Rattle.paging_model.specs.Memory.{IsPlaced};
 ghost use Rattle.elf_core.specs.Extents.{extent};
 ghost use Rattle.elf_core.specs.FileHeader.{kind_check, table_check, file_header_check, e_phoff, e_phnum};
-ghost use Rattle.elf_core.specs.ProgramHeaders.{program_header_at, program_header, is_passed_over, is_in_file, is_below_the_width, contents, segment_of, notes_of};
+ghost use Rattle.elf_core.specs.ProgramHeaders.{program_header_at, program_header, is_skipped_header, is_in_file, is_below_the_width, contents, segment_of, notes_of};
 
 use crate::faults::CoreFault;
 use crate::fields::{half_at, word_at, xword_at};
@@ -15,28 +15,28 @@ const FILE_HEADER_SIZE: usize = 64;
 /// The bytes of one program header.
 const PROGRAM_HEADER_SIZE: u16 = 56;
 
-// The places of the file header's fields.
+/// The offset of the class in the file header.
 const EI_CLASS: usize = 4;
-
+/// The offset of the data encoding in the file header.
 const EI_DATA: usize = 5;
-
+/// The offset of the type in the file header.
 const E_TYPE: usize = 16;
-
+/// The offset of the machine in the file header.
 const E_MACHINE: usize = 18;
-
+/// The offset, in the file header, of the file offset of the program headers.
 const E_PHOFF: usize = 32;
-
+/// The offset of the size of a program header in the file header.
 const E_PHENTSIZE: usize = 54;
-
+/// The offset of the count of program headers in the file header.
 const E_PHNUM: usize = 56;
 
-// The places of a program header's fields, from its start.
+/// The offset of the type in a program header.
 const P_TYPE: usize = 0;
-
+/// The offset, in a program header, of the file offset of its bytes.
 const P_OFFSET: usize = 8;
-
+/// The offset of the physical address in a program header.
 const P_PADDR: usize = 24;
-
+/// The offset, in a program header, of the count of its bytes in the file.
 const P_FILESZ: usize = 32;
 
 /// The first bytes of every ELF file.
@@ -49,7 +49,7 @@ const LITTLE_ENDIAN: u8 = 1;
 const TYPE_CORE: u16 = 4;
 /// e_machine of x86-64.
 const MACHINE_X86_64: u16 = 62;
-/// e_phnum where the number of program headers stands elsewhere.
+/// e_phnum where the count of program headers stands elsewhere.
 const COUNT_ELSEWHERE: u16 = 0xffff;
 /// p_type of memory.
 pub const PT_LOAD: u32 = 1;
@@ -60,11 +60,11 @@ const NO_ADDRESS: u64 = u64::MAX;
 /// The end of physical memory at the greatest width.
 const MEMORY_END: u64 = 1 << 52;
 
-/// Whether a range of so many items from a place on ends at an end or before it.
-fn ends_within(end: u64, place: u64, size: u64) -> bool
-    ensures { IsTrue result ↔ (place + size ≤ end) }
+/// Whether a range of so many items from a start on ends at an end or before it.
+fn ends_within(end: u64, start: u64, size: u64) -> bool
+    ensures { IsTrue result ↔ (start + size ≤ end) }
 {
-    place <= end && size <= end - place
+    start <= end && size <= end - start
 }
 
 /// Whether the file is a little-endian core of a 64-bit x86 machine.
@@ -131,7 +131,7 @@ pub fn check_file_header(bytes: &[u8]) -> Result<(), CoreFault>
     check_table(bytes)
 }
 
-/// How many program headers a file header tells.
+/// How many program headers there are by the file header.
 pub fn header_count(bytes: &[u8]) -> u16
     requires { 64 ≤ length bytes.now }
     ensures { result ≡ e_phnum bytes.now }
@@ -144,7 +144,7 @@ pub fn header_count(bytes: &[u8]) -> u16
 pub struct ProgramHeader {
     /// p_type.
     pub kind: u32,
-    /// p_offset: the place of its bytes in the file.
+    /// p_offset: the offset of its bytes in the file.
     pub offset: u64,
     /// p_paddr: the physical address of its first byte.
     pub physical: u64,
@@ -152,37 +152,34 @@ pub struct ProgramHeader {
     pub file_size: u64,
 }
 
-/// Reads the program header at a place.
-fn program_header_at(bytes: &[u8], place: usize) -> ProgramHeader
-    requires { place + 56 ≤ length bytes.now }
-    ensures { result ≡ program_header_at bytes.now place }
+/// Reads the program header at an offset.
+fn program_header_at(bytes: &[u8], offset: usize) -> ProgramHeader
+    requires { offset + 56 ≤ length bytes.now }
+    ensures { result ≡ program_header_at bytes.now offset }
 {
     ProgramHeader {
-        kind: word_at(bytes, place + P_TYPE),
-        offset: xword_at(bytes, place + P_OFFSET),
-        physical: xword_at(bytes, place + P_PADDR),
-        file_size: xword_at(bytes, place + P_FILESZ),
+        kind: word_at(bytes, offset + P_TYPE),
+        offset: xword_at(bytes, offset + P_OFFSET),
+        physical: xword_at(bytes, offset + P_PADDR),
+        file_size: xword_at(bytes, offset + P_FILESZ),
     }
 }
 
-/// Reads the program header of a number, from 0 on.
-pub fn program_header(bytes: &[u8], number: u16) -> ProgramHeader
+/// Reads the program header of an index, from 0 on.
+pub fn program_header(bytes: &[u8], index: u16) -> ProgramHeader
     requires long { 64 ≤ length bytes.now }
     requires headers { e_phoff bytes.now + 56 * e_phnum bytes.now ≤ length bytes.now }
-    requires number { number < e_phnum bytes.now }
-    ensures { result ≡ program_header bytes.now number }
+    requires index { index < e_phnum bytes.now }
+    ensures { result ≡ program_header bytes.now index }
 {
     let table = xword_at(bytes, E_PHOFF) as usize;
-    program_header_at(
-        bytes,
-        table + PROGRAM_HEADER_SIZE as usize * number as usize,
-    )
+    program_header_at(bytes, table + PROGRAM_HEADER_SIZE as usize * index as usize)
 }
 
 impl ProgramHeader {
     /// Whether the header is one of memory that says nothing: without bytes in the file, or without an address.
-    fn is_passed_over(&self) -> bool
-        ensures { result ≡ is_passed_over self.now }
+    fn is_skipped(&self) -> bool
+        ensures { result ≡ is_skipped_header self.now }
     {
         self.file_size == 0 || self.physical == NO_ADDRESS
     }
@@ -210,29 +207,27 @@ impl ProgramHeader {
         &bytes[start..start + self.file_size as usize]
     }
 
-    /// The segment of memory that the header places. There is none where it is passed over.
+    /// The segment of memory that the header places. There is none where it is skipped.
     ///
     /// # Errors
     ///
     /// The segment passes the end of the file, or else the greatest physical width.
     #[tactic(auto, unfolding(crate::specs::ProgramHeaders::segment_of))]
-    pub fn segment<'a>(
-        &self,
-        bytes: &'a [u8],
-        number: u16,
-    ) -> Result<Option<Segment<'a>>, CoreFault>
-        ensures ok { IfOk result (λ segment. segment_of bytes.now number self.now ≡ Ok (option_map extent segment)) }
-        ensures refused { IfErr result (λ fault. segment_of bytes.now number self.now ≡ Err fault) }
-        ensures placed { IfOk result (λ segment. IfSome segment (λ segment. IsPlaced (extent segment))) }
+    pub fn segment<'a>(&self, bytes: &'a [u8], index: u16) -> Result<Option<Segment<'a>>, CoreFault>
+        ensures ok { IfOk result (λ segment.
+            segment_of bytes.now index self.now ≡ Ok (option_map extent segment)) }
+        ensures refused { IfErr result (λ fault. segment_of bytes.now index self.now ≡ Err fault) }
+        ensures placed { IfOk result
+            (λ segment. IfSome segment (λ segment. IsPlaced (extent segment))) }
     {
-        if self.is_passed_over() {
+        if self.is_skipped() {
             return Ok(None);
         }
         if !self.is_in_file(bytes) {
-            return Err(CoreFault::SegmentRange(number));
+            return Err(CoreFault::SegmentRange(index));
         }
         if !self.is_below_the_width() {
-            return Err(CoreFault::SegmentAddress(number));
+            return Err(CoreFault::SegmentAddress(index));
         }
         Ok(Some(Segment {
             phys: self.physical,
@@ -246,15 +241,15 @@ impl ProgramHeader {
     ///
     /// They pass the end of the file.
     #[tactic(auto, unfolding(crate::specs::ProgramHeaders::notes_of))]
-    pub fn notes<'a>(&self, bytes: &'a [u8], number: u16) -> Result<&'a [u8], CoreFault>
-        ensures ok { IfOk result (λ notes. notes_of bytes.now number self.now ≡ Ok notes.now) }
-        ensures refused { IfErr result (λ fault. notes_of bytes.now number self.now ≡ Err fault) }
+    pub fn notes<'a>(&self, bytes: &'a [u8], index: u16) -> Result<&'a [u8], CoreFault>
+        ensures ok { IfOk result (λ notes. notes_of bytes.now index self.now ≡ Ok notes.now) }
+        ensures refused { IfErr result (λ fault. notes_of bytes.now index self.now ≡ Err fault) }
     {
         if self.file_size == 0 {
             return Ok(&[]);
         }
         if !self.is_in_file(bytes) {
-            return Err(CoreFault::NoteRange(number));
+            return Err(CoreFault::NoteRange(index));
         }
         Ok(self.contents(bytes))
     }

@@ -3,16 +3,9 @@
 ghost use Rattle.std.specs.Prelude.{◌≡◌, ◌++◌, [], ◌∷◌, OnOk, OnErr};
 ghost use Rattle.std.specs.List.{list_any};
 
-use proc_regs::Regs;
+use paging_model::registers::Processor;
 use std::alloc::{AllocError, Global};
 use std::marker::Model;
-
-/// A processor by its number.
-#[derive(Clone, Copy, Debug, PartialEq, Eq)]
-pub struct Processor {
-    pub number: u32,
-    pub regs: Regs,
-}
 
 /// Processors in the order of their notes.
 #[derive(Debug, Drop)]
@@ -22,7 +15,7 @@ pub struct Processors {
 
 impl Model for Processors {
     ghost use Rattle.std.specs.Prelude.{List};
-    ghost use Rattle.elf_core.specs.declared.processors.Processor.{Processor};
+    ghost use Rattle.paging_model.specs.declared.registers.Processor.{Processor};
 
     ghost Value = { List Processor };
 
@@ -41,14 +34,14 @@ impl Processors {
         }
     }
 
-    /// Takes the list over.
+    /// Takes ownership of the list.
     pub fn from_vec(items: Vec<Processor>) -> Processors
         ensures { result ≡ items.items }
     {
         Processors { items }
     }
 
-    /// Lends the list.
+    /// Borrows the list.
     pub fn as_slice(&self) -> &[Processor]
         ensures { result.now ≡ self.now }
     {
@@ -64,7 +57,7 @@ impl Processors {
             .any(|processor| processor.number == number)
     }
 
-    /// Adds a processor behind the others. An `Err` changes nothing.
+    /// Adds a processor after the others.
     pub fn push(&mut self, processor: Processor) -> Result<(), AllocError>
         ensures ok { OnOk result (self.new ≡ self.old ++ processor ∷ []) }
         ensures err { OnErr result (self.new ≡ self.old) }

@@ -45,7 +45,7 @@ impl<'a> Segments<'a> {
         }
     }
 
-    /// Takes the list over.
+    /// Takes ownership of the list.
     pub fn from_vec(items: Vec<Segment<'a>>) -> Segments<'a>
         requires { All IsPlaced (extents items.items) }
         ensures { result ≡ extents items.entry.items }
@@ -53,7 +53,7 @@ impl<'a> Segments<'a> {
         Segments { items }
     }
 
-    /// Lends the list.
+    /// Borrows the list.
     pub fn as_slice(&self) -> &[Segment<'a>]
         ensures value { extents result.now ≡ self.now }
         ensures placed { All IsPlaced self.now }
@@ -61,7 +61,7 @@ impl<'a> Segments<'a> {
         self.items.as_slice()
     }
 
-    /// Adds a segment behind the others. An `Err` changes nothing.
+    /// Adds a segment after the others.
     pub fn push(&mut self, segment: Segment<'a>) -> Result<(), AllocError>
         requires { IsPlaced (extent segment) }
         ensures ok { OnOk result (self.new ≡ self.old ++ extent segment.entry ∷ []) }

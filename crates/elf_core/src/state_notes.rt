@@ -1,53 +1,34 @@
 //! The notes that state the machine and its processors.
 
 ghost use Rattle.std.specs.Prelude.{◌≡◌, ◌≤◌, length};
-ghost use Rattle.paging_model.specs.Registers.{machine_of};
 ghost use Rattle.elf_core.specs.NoteViews.{parts};
-ghost use Rattle.elf_core.specs.StateNotes.{is_state_note, is_machine, machine_stated, regs_at, has_zeros, processor_stated, statement_of};
+ghost use Rattle.elf_core.specs.StateNotes.{is_state_note, machine_stated, regs_at, has_zeros, processor_stated, statement_of};
 
-use crate::core_file::Core;
+use crate::core_file::{Core, Statement};
 use crate::faults::NoteRule;
 use crate::fields::{word_at, xword_at};
 use crate::notes::Note;
-use crate::processors::Processor;
+use paging_model::registers::{Machine, PROCESSOR_LIMIT, Processor, Regs};
 use proc_regs::bit_ranges::bit;
+use proc_regs::check;
 use proc_regs::register_bits::RFLAGS_AC;
-use proc_regs::{Machine, Regs, check};
 
 /// The owner of state notes.
 const OWNER: [u8; 10] = *b"X86RIGHTS\0";
-/// The type of the note of the machine, and the bytes of its description.
+/// The type of the note of the machine.
 const MACHINE_TYPE: u32 = 1;
-
+/// The bytes of the machine's description.
 const MACHINE_SIZE: usize = 8;
-/// The type of a processor's note, and the bytes of its description.
+/// The type of a processor's note.
 const PROCESSOR_TYPE: u32 = 2;
-
+/// The bytes of a processor's description.
 const PROCESSOR_SIZE: usize = 64;
-/// How many processors there may be.
-const MAX_PROCESSORS: usize = 64;
-
-/// What a note states.
-#[derive(Clone, Copy, Debug)]
-pub enum Statement {
-    Machine(Machine),
-    Processor(Processor),
-}
 
 /// Whether a note is one that states the machine or a processor.
 pub fn is_state_note(note: &Note<'_>) -> bool
     ensures { result ≡ is_state_note (parts note.now) }
 {
     note.name == OWNER.as_slice()
-}
-
-/// The machine of a physical width.
-pub fn machine_of(m: u8, big: bool) -> Machine
-    requires least { 32 ≤ m }
-    requires most { m ≤ 52 }
-    ensures { result ≡ machine_of m big }
-{
-    Machine { m, big }
 }
 
 /// The machine that a description states, after what is known.
@@ -69,7 +50,7 @@ fn machine_stated(core: &Core<'_>, description: &[u8]) -> Result<Machine, NoteRu
     if core.stated {
         return Err(NoteRule::Twice);
     }
-    Ok(machine_of(m as u8, big == 1))
+    Ok(Machine::new(m as u8, big == 1))
 }
 
 /// The registers in a processor's description.
@@ -88,7 +69,7 @@ fn regs_at(description: &[u8]) -> Regs
     }
 }
 
-/// Whether the fields of a processor's description are 0 that are so by the layout.
+/// Whether the fields of a processor's description that are 0 by the layout are 0.
 fn has_zeros(description: &[u8]) -> bool
     requires { 64 ≤ length description.now }
     ensures { result ≡ has_zeros description.now }
@@ -111,14 +92,12 @@ fn processor_stated(core: &Core<'_>, description: &[u8]) -> Result<Processor, No
     if core.processors.has_number(number) {
         return Err(NoteRule::Twice);
     }
-    if core.processors.as_slice().len() >= MAX_PROCESSORS {
+    if core.processors.as_slice().len() >= PROCESSOR_LIMIT {
         return Err(NoteRule::TooMany);
     }
     let regs = regs_at(description);
-    match check(&core.machine, &regs) {
-        Ok(()) => Ok(Processor { number, regs }),
-        Err(rule) => Err(NoteRule::Regs(rule)),
-    }
+    check(&core.machine, &regs).map_err(NoteRule::Regs)?;
+    Ok(Processor { number, regs })
 }
 
 /// What a state note states, after what is known.

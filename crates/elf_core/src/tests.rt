@@ -2,62 +2,14 @@
 
 use super::*;
 use crate::headers::ProgramHeader;
-use proc_regs::{Machine, RegRule, Regs};
+use paging_model::registers::{Machine, Processor, RegRule};
 use std::alloc::{AllocError, Global};
 use std::test::Fail;
+use test_support::cores::{FILE_HEADER, example_core, example_core_with};
+use test_support::fields::{put, put_all};
+use test_support::registers::REGS;
 
-/// The length of the example core.
-const SIZE: usize = 65_832;
-
-/// The first eight bytes of a state note's owner, `X86RIGHT`.
-const OWNER: u64 = 0x5448_4749_5236_3858;
-
-/// The fields of the example core that aren't 0: place, size in bytes, value.
-const FIELDS: [(usize, usize, u64); 36] = [
-    (0, 4, 0x464c_457f),
-    (4, 1, 2),
-    (5, 1, 1),
-    (16, 2, 4),
-    (18, 2, 62),
-    (32, 8, 64),
-    (54, 2, 56),
-    (56, 2, 2),
-    // The program header of the notes.
-    (64, 4, 4),
-    (72, 8, 176),
-    (96, 8, 120),
-    // The program header of the segment.
-    (120, 4, 1),
-    (128, 8, 296),
-    (152, 8, 65_536),
-    // The note of the machine.
-    (176, 4, 10),
-    (180, 4, 8),
-    (184, 4, 1),
-    (188, 8, OWNER),
-    (196, 1, 0x53),
-    (200, 4, 40),
-    (204, 4, 1),
-    // The note of the processor.
-    (208, 4, 10),
-    (212, 4, 64),
-    (216, 4, 2),
-    (220, 8, OWNER),
-    (228, 1, 0x53),
-    (240, 8, 0x8001_0001),
-    (248, 8, 0x1000),
-    (256, 8, 0x20),
-    (264, 8, 0xd00),
-    (272, 8, 0x2),
-    // Page tables in the segment.
-    (296 + 0x1000, 8, 0x2007),
-    (296 + 0x2000, 8, 0x3007),
-    (296 + 0x3000, 8, 0x4007),
-    (296 + 0x4000, 8, 0x5007),
-    (296 + 0x4008, 8, 0x6005),
-];
-
-/// Changes of one field after which the example is refused: place, size in bytes, value, and why.
+/// Changes of one field after which the example core is refused: offset, size in bytes, value, and why.
 const REFUSED: [(usize, usize, u64, CoreFault); 33] = [
     // The file header.
     (0, 1, 0x7e, CoreFault::NotElf),
@@ -125,8 +77,8 @@ const REFUSED: [(usize, usize, u64, CoreFault); 33] = [
     ),
 ];
 
-/// Changes of one byte in fields that aren't looked at: e_entry, p_flags, p_memsz, p_align, padding, RFLAGS.CF, CR4.PGE.
-const NOT_LOOKED_AT: [(usize, u64); 9] = [
+/// Changes of one byte in fields that aren't checked: e_entry, p_flags, p_memsz, p_align, padding, RFLAGS.CF, CR4.PGE.
+const NOT_CHECKED: [(usize, u64); 9] = [
     (6, 1),
     (24, 1),
     (68, 7),
@@ -138,49 +90,17 @@ const NOT_LOOKED_AT: [(usize, u64); 9] = [
     (256, 0xa0),
 ];
 
-/// The registers of the example's processor.
-const REGS: Regs = Regs {
-    cr0: 0x8001_0001,
-    cr3: 0x1000,
-    cr4: 0x20,
-    efer: 0xd00,
-    ac: false,
-    pkru: 0,
-    pkrs: 0,
-};
-
-fn put(file: &mut [u8], place: usize, size: usize, value: u64) {
-    for (byte, new) in file
-        .iter_mut()
-        .skip(place)
-        .take(size)
-        .zip(value.to_le_bytes())
-    {
-        *byte = new;
-    }
-}
-
-fn example(alloc: Global) -> Result<Vec<u8>, AllocError> {
-    let mut file = vec![in alloc; 0; SIZE]?;
-    for (place, size, value) in FIELDS {
-        put(&mut file, place, size, value);
-    }
-    Ok(file)
-}
-
-/// A file of these program headers from 64 on, and of these bytes behind them.
+/// A file of these program headers from 64 on, and of these bytes after them.
 fn file_of(alloc: Global, headers: &[ProgramHeader], bytes: &[u8]) -> Result<Vec<u8>, AllocError> {
     let mut file = vec![in alloc; 0; 64]?;
-    for (place, size, value) in FIELDS {
-        put(&mut file, place, size, value);
-    }
-    put(&mut file, 56, 2, headers.len() as u64);
+    put_all(&mut file, &FILE_HEADER);
+    put(&mut file, (56, 2, headers.len() as u64));
     for header in headers {
         let mut fields = [0; 56];
-        put(&mut fields, 0, 4, header.kind as u64);
-        put(&mut fields, 8, 8, header.offset);
-        put(&mut fields, 24, 8, header.physical);
-        put(&mut fields, 32, 8, header.file_size);
+        put(&mut fields, (0, 4, header.kind as u64));
+        put(&mut fields, (8, 8, header.offset));
+        put(&mut fields, (24, 8, header.physical));
+        put(&mut fields, (32, 8, header.file_size));
         file.extend_from_slice(&fields)?;
     }
     file.extend_from_slice(bytes)?;
@@ -198,7 +118,7 @@ fn file_of_notes(alloc: Global, notes: &[u8]) -> Result<Vec<u8>, AllocError> {
     file_of(alloc, &[header], notes)
 }
 
-/// Adds a note, with padding behind its name and its description.
+/// Adds a note, with padding after its name and its description.
 fn add_note(
     notes: &mut Vec<u8>,
     name: &[u8],
@@ -206,9 +126,9 @@ fn add_note(
     description: &[u8],
 ) -> Result<(), AllocError> {
     let mut fields = [0; 12];
-    put(&mut fields, 0, 4, name.len() as u64);
-    put(&mut fields, 4, 4, description.len() as u64);
-    put(&mut fields, 8, 4, kind);
+    put(&mut fields, (0, 4, name.len() as u64));
+    put(&mut fields, (4, 4, description.len() as u64));
+    put(&mut fields, (8, 4, kind));
     notes.extend_from_slice(&fields)?;
     for part in [name, description] {
         notes.extend_from_slice(part)?;
@@ -217,26 +137,28 @@ fn add_note(
     Ok(())
 }
 
+/// Adds a state note of a machine.
 fn add_machine(notes: &mut Vec<u8>, m: u64, big: u64) -> Result<(), AllocError> {
     let mut description = [0; 8];
-    put(&mut description, 0, 4, m);
-    put(&mut description, 4, 4, big);
+    put(&mut description, (0, 4, m));
+    put(&mut description, (4, 4, big));
     add_note(notes, b"X86RIGHTS\0", 1, &description)
 }
 
+/// Adds a state note of a processor.
 fn add_processor(notes: &mut Vec<u8>, number: u64, cr3: u64) -> Result<(), AllocError> {
     let mut description = [0; 64];
-    put(&mut description, 0, 4, number);
-    put(&mut description, 8, 8, 0x8001_0001);
-    put(&mut description, 16, 8, cr3);
-    put(&mut description, 24, 8, 0x20);
-    put(&mut description, 32, 8, 0xd00);
+    put(&mut description, (0, 4, number));
+    put(&mut description, (8, 8, REGS.cr0));
+    put(&mut description, (16, 8, cr3));
+    put(&mut description, (24, 8, REGS.cr4));
+    put(&mut description, (32, 8, REGS.efer));
     add_note(notes, b"X86RIGHTS\0", 2, &description)
 }
 
 #[test]
 fn reads_the_example(rt: HostRuntime) -> Result<(), Fail> {
-    let file = example(rt.alloc())?;
+    let file = example_core(rt.alloc())?;
     let core = parse(rt.alloc(), &file)?;
     assert!(rt; core.stated);
     assert_eq!(rt; core.machine, Machine { m: 40, big: true });
@@ -260,21 +182,25 @@ fn reads_the_example(rt: HostRuntime) -> Result<(), Fail> {
 
 #[test]
 fn keeps_each_register(rt: HostRuntime) -> Result<(), Fail> {
-    let mut file = example(rt.alloc())?;
-    put(&mut file, 144, 8, 0xf_ffff_ffff_0000);
-    put(&mut file, 200, 8, 52);
-    put(&mut file, 240, 8, 0xffff_ffff_8000_0001);
-    put(&mut file, 248, 8, 0x6fff_ffff_ffff_ffff);
-    put(&mut file, 256, 8, 0xffff_ffff_ffff_ffff);
-    put(&mut file, 264, 8, 0x500);
-    put(&mut file, 272, 8, 0x4_0000);
-    put(&mut file, 280, 8, 0x0000_0002_0000_0001);
+    let mut file = example_core_with(
+        rt.alloc(),
+        &[
+            (144, 8, 0xf_ffff_ffff_0000),
+            (200, 8, 52),
+            (240, 8, 0xffff_ffff_8000_0001),
+            (248, 8, 0x6fff_ffff_ffff_ffff),
+            (256, 8, 0xffff_ffff_ffff_ffff),
+            (264, 8, 0x500),
+            (272, 8, 0x4_0000),
+            (280, 8, 0x0000_0002_0000_0001),
+        ],
+    )?;
     let core = parse(rt.alloc(), &file);
     assert_eq!(rt;
         core.err(),
         Some(CoreFault::NoteState(0, NoteRule::Regs(RegRule::Cr3Reserved)))
     );
-    put(&mut file, 248, 8, 0x600f_ffff_ffff_ffff);
+    put(&mut file, (248, 8, 0x600f_ffff_ffff_ffff));
     let core = parse(rt.alloc(), &file)?;
     assert_eq!(rt; core.machine, Machine { m: 52, big: false });
     let processors = core.processors.as_slice();
@@ -294,22 +220,18 @@ fn keeps_each_register(rt: HostRuntime) -> Result<(), Fail> {
 
 #[test]
 fn refuses_by_the_first_rule(rt: HostRuntime) -> Result<(), Fail> {
-    for (place, size, value, fault) in REFUSED {
-        let mut file = example(rt.alloc())?;
-        put(&mut file, place, size, value);
+    for (offset, size, value, fault) in REFUSED {
+        let file = example_core_with(rt.alloc(), &[(offset, size, value)])?;
         let refusal = parse(rt.alloc(), &file).err();
-        assert_eq!(rt; refusal, Some(fault), "{value:#x} at {place}");
+        assert_eq!(rt; refusal, Some(fault), "{value:#x} at {offset}");
     }
-    for (place, value) in NOT_LOOKED_AT {
-        let mut file = example(rt.alloc())?;
-        put(&mut file, place, 1, value);
+    for (offset, value) in NOT_CHECKED {
+        let file = example_core_with(rt.alloc(), &[(offset, 1, value)])?;
         let refusal = parse(rt.alloc(), &file).err();
-        assert_eq!(rt; refusal, None, "{value:#x} at {place}");
+        assert_eq!(rt; refusal, None, "{value:#x} at {offset}");
     }
     // The segment is out of both ranges.
-    let mut file = example(rt.alloc())?;
-    put(&mut file, 128, 8, 297);
-    put(&mut file, 144, 8, 1 << 52);
+    let file = example_core_with(rt.alloc(), &[(128, 8, 297), (144, 8, 1 << 52)])?;
     assert_eq!(rt;
         parse(rt.alloc(), &file).err(),
         Some(CoreFault::SegmentRange(1))
@@ -318,7 +240,7 @@ fn refuses_by_the_first_rule(rt: HostRuntime) -> Result<(), Fail> {
 }
 
 #[test]
-fn refuses_files_cut_short(rt: HostRuntime) -> Result<(), Fail> {
+fn refuses_truncated_files(rt: HostRuntime) -> Result<(), Fail> {
     for (length, fault) in [
         (0, CoreFault::Short),
         (63, CoreFault::Short),
@@ -327,7 +249,7 @@ fn refuses_files_cut_short(rt: HostRuntime) -> Result<(), Fail> {
         (176, CoreFault::NoteRange(0)),
         (65_831, CoreFault::SegmentRange(1)),
     ] {
-        let mut file = example(rt.alloc())?;
+        let mut file = example_core(rt.alloc())?;
         file.truncate(length);
         let refusal = parse(rt.alloc(), &file).err();
         assert_eq!(rt; refusal, Some(fault), "{length} bytes");
@@ -336,7 +258,7 @@ fn refuses_files_cut_short(rt: HostRuntime) -> Result<(), Fail> {
 }
 
 #[test]
-fn passes_over_what_says_nothing(rt: HostRuntime) -> Result<(), Fail> {
+fn skips_what_says_nothing(rt: HostRuntime) -> Result<(), Fail> {
     let mut bytes = Vec::new(rt.alloc());
     add_note(&mut bytes, b"CORE\0", 1, &[0; 8])?;
     add_note(&mut bytes, b"QEMU\0", 0, &[0; 8])?;
@@ -388,7 +310,7 @@ fn passes_over_what_says_nothing(rt: HostRuntime) -> Result<(), Fail> {
         file_size: 1,
     };
     let mut file = file_of(rt.alloc(), &[notes, first, second, without_bytes], &bytes)?;
-    put(&mut file, 64 + 3 * 56 + 40, 8, 0x1000);
+    put(&mut file, (64 + 3 * 56 + 40, 8, 0x1000));
     let core = parse(rt.alloc(), &file)?;
     assert!(rt; !core.stated);
     assert_eq!(rt; core.machine, Machine { m: 52, big: true });
@@ -413,7 +335,7 @@ fn passes_over_what_says_nothing(rt: HostRuntime) -> Result<(), Fail> {
 
 #[test]
 fn reads_notes_to_their_end(rt: HostRuntime) -> Result<(), Fail> {
-    // A name of six bytes, without a description and with less padding than it wants.
+    // A name of six bytes, without a description and with less padding than it should have.
     let mut notes = Vec::new(rt.alloc());
     add_machine(&mut notes, 46, 0)?;
     add_note(&mut notes, b"VMCORE", 0, &[])?;
@@ -489,7 +411,7 @@ fn takes_64_processors(rt: HostRuntime) -> Result<(), Fail> {
     let file = file_of_notes(rt.alloc(), &notes)?;
     let core = parse(rt.alloc(), &file)?;
     assert_eq!(rt; core.processors.as_slice().len(), 64);
-    // The 65th is refused after its number is looked at, and before its registers.
+    // The 65th is refused after its number is checked, and before its registers.
     let mut one_more = notes.clone()?;
     add_processor(&mut one_more, 0, 1 << 60)?;
     let file = file_of_notes(rt.alloc(), &one_more)?;
@@ -535,11 +457,11 @@ fn says_why(rt: HostRuntime) -> Result<(), Fail> {
         ),
         (
             CoreFault::NoteState(2, NoteRule::Zero),
-            "a state note of program header 2 is refused: a field that has to be 0 isn't 0",
+            "a state note of program header 2 is refused: a field that is 0 by the layout isn't 0",
         ),
         (
             CoreFault::NoteState(0, NoteRule::Regs(RegRule::NoPae)),
-            "a state note of program header 0 is refused: its registers are refused: NoPae",
+            "a state note of program header 0 is refused: its registers break the rule NoPae of the machine",
         ),
         (CoreFault::Memory, "out of memory"),
     ] {

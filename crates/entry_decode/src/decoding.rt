@@ -1,7 +1,7 @@
 //! Entries, and the joining of their bits.
 
 ghost use Rattle.std.specs.Prelude.{◌≡◌, ◌+◌, ◌%◌, ◌^◌, ◌≤◌};
-ghost use Rattle.paging_model.specs.Entries.{IsFrame, HasFrame, entry_of, is_reserved as is_reserved_by, joined, page_frame as page_frame_of, page_size_is_reserved as page_size_reserved_by, some_low_frame_bit as low_frame_bit_of};
+ghost use Rattle.paging_model.specs.Entries.{IsFrame, HasFrame, entry_of, is_reserved as is_reserved_by, joined_bits, page_frame as page_frame_of, page_size_is_reserved as page_size_reserved_by, some_low_frame_bit as low_frame_bit_of};
 ghost use Rattle.paging_model.specs.LinearAddress.{span};
 ghost use Rattle.entry_decode.specs.Levels.{IsOfLevel};
 
@@ -10,13 +10,13 @@ use crate::entry_bits::{
     KEY_HIGH, KEY_LOW, PAGE_SIZE, PRESENT, USER, WRITE,
 };
 use paging_model::entries::{Bits, Entry};
-use proc_regs::Settings;
+use paging_model::registers::Settings;
 use proc_regs::bit_ranges::{bit, field, in_place, some_bit};
 
 /// The meaning of an entry of a level, 5 to 1.
 ///
-/// Where P is 0 no other bit is looked at. Bits 3 to 6, 9 to 11 and 58:52 never are, nor is PAT (bit 7 at level 1, bit
-/// 12 of a large page). G and the protection key are those of a page alone.
+/// Where P is 0, no other bit counts. Bits 3 to 6, 9 to 11 and 58:52 never do, nor does PAT (bit 7 at level 1, bit 12
+/// of a large page). G and the protection key are those of a page alone.
 #[tactic(auto, unfolding(paging_model::specs::Entries::entry_of))]
 pub fn decode(level: u8, settings: &Settings, value: u64) -> Entry
     requires least { 1 ≤ level }
@@ -54,7 +54,7 @@ pub fn decode(level: u8, settings: &Settings, value: u64) -> Entry
 /// The bits of an entry under those that were joined above it: `write` and `user` where both have them, `xd` where one
 /// has it.
 pub fn join(above: Bits, below: Bits) -> Bits
-    ensures { result ≡ joined above below }
+    ensures { result ≡ joined_bits above below }
 {
     Bits {
         write: above.write && below.write,
@@ -63,7 +63,7 @@ pub fn join(above: Bits, below: Bits) -> Bits
     }
 }
 
-// Whether a reserved bit of a present entry is 1.
+/// Whether a reserved bit of a present entry is 1.
 #[tactic(auto, unfolding(paging_model::specs::Entries::is_reserved))]
 fn is_reserved(level: u8, settings: &Settings, value: u64) -> bool
     ensures { result ≡ is_reserved_by level settings.now value }
@@ -74,14 +74,14 @@ fn is_reserved(level: u8, settings: &Settings, value: u64) -> bool
             && (page_size_is_reserved(level, settings) || some_low_frame_bit(level, value)))
 }
 
-// Whether no entry of the level maps a large page.
+/// Whether no entry of the level maps a large page.
 fn page_size_is_reserved(level: u8, settings: &Settings) -> bool
     ensures { result ≡ page_size_reserved_by level settings.now }
 {
     level == 5 || level == 4 || (level == 3 && !settings.big)
 }
 
-// Whether a frame bit below the size of a large page is 1. Bit 12 of a large page is PAT.
+/// Whether a frame bit below the size of a large page is 1. Bit 12 of a large page is PAT.
 fn some_low_frame_bit(level: u8, value: u64) -> bool
     ensures { result ≡ low_frame_bit_of level value }
 {
@@ -89,7 +89,7 @@ fn some_low_frame_bit(level: u8, value: u64) -> bool
         || (level == 2 && some_bit(value, FRAME_LOW_2_MBYTES - 1, FRAME_LOW + 1))
 }
 
-// The physical address of the page that a leaf maps.
+/// The physical address of the page that a leaf maps.
 fn page_frame(level: u8, value: u64) -> u64
     requires least { 1 ≤ level }
     requires most { level ≤ 3 }

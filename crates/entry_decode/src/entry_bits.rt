@@ -1,4 +1,4 @@
-//! The places of an entry's bits.
+//! The indices of an entry's bits.
 
 /// P: the entry is present.
 pub const PRESENT: u8 = 0;

@@ -3,10 +3,11 @@
 ghost use Rattle.std.specs.Prelude.{◌≤◌};
 
 use super::*;
-use proc_regs::Settings;
+use paging_model::entries::{Bits, Entry};
+use paging_model::registers::Settings;
 use std::process::Abort;
 
-/// The settings of 4 levels, with a physical width, 1-GByte pages and execute-disable as told.
+/// The settings of 4 levels, with a physical width, with 1-GByte pages and execute-disable or without.
 fn settings(m: u8, big: bool, nxe: bool) -> Settings
     requires least { 32 ≤ m }
     requires most { m ≤ 52 }
@@ -26,10 +27,12 @@ const ALL: Bits = Bits {
     xd: false,
 };
 
+/// The meaning of an entry that references a table.
 fn table(frame: u64, bits: Bits) -> Entry {
     Entry::Table { frame, bits }
 }
 
+/// The meaning of an entry that maps a page with all rights, the key 0 and without G.
 fn leaf(frame: u64) -> Entry {
     Entry::Leaf {
         frame,
@@ -68,7 +71,7 @@ fn reads_tables_and_pages(rt: HostRuntime) {
             (2, 0x40_10e7, leaf(0x40_0000)),
             (3, 0x4000_00e7, leaf(0x4000_0000)),
             (3, 0x4000_10e7, leaf(0x4000_0000)),
-            // The highest frame below the physical width, and bits that aren't looked at.
+            // The highest frame below the physical width, and bits that aren't checked.
             (1, 0xff_ffff_f007, leaf(0xff_ffff_f000)),
             (4, 0x7ff0_0000_0000_2f7f, table(0x2000, ALL)),
             (1, 0x07f0_0000_0000_2eff, leaf(0x2000)),

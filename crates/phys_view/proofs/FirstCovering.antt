@@ -16,43 +16,43 @@ placed_at [] i d within placed = absurd (omega arith)
 placed_at (s ∷ rest) zero d within placed = placed 0 (extent s) (omega arith)
 placed_at (s ∷ rest) (suc i) d within placed = placed_at rest i d (omega arith) (λ k e h. placed (suc k) e (omega arith))
 
-number_is-zero : (found : Option ℕ) → option_map suc found ≡ Some 0 → ⊥
-number_is-zero None h = grind arith
-number_is-zero (Some i) h = grind arith
+index_is-zero : (found : Option ℕ) → option_map suc found ≡ Some 0 → ⊥
+index_is-zero None h = grind arith
+index_is-zero (Some i) h = grind arith
 
-number_is-suc : (found : Option ℕ) (i : ℕ) → option_map suc found ≡ Some (suc i) → found ≡ Some i
-number_is-suc None i h = grind arith
-number_is-suc (Some j) i h = grind arith
+index_is-suc : (found : Option ℕ) (i : ℕ) → option_map suc found ≡ Some (suc i) → found ≡ Some i
+index_is-suc None i h = grind arith
+index_is-suc (Some j) i h = grind arith
 
 covers_first : (covered : Bool) (found : Option ℕ) → (if covered then Some 0 else option_map suc found) ≡ Some 0 → covered ≡ true
 covers_first true found h = refl
-covers_first false found h = absurd (number_is-zero found h)
+covers_first false found h = absurd (index_is-zero found h)
 
 byte_first : (covered : Bool) (x y : ℕ) (other : Option ℕ) → (if covered then Some x else None) ≡ Some y → (if covered then Some x else other) ≡ Some y
 byte_first true x y other h = h
 byte_first false x y other h = absurd (grind arith)
 
 in_one-none : (e : Extent) (rest : List Extent) (a n : ℕ) → CoversNone e a n → IsInOne rest a n → IsInOne (e ∷ rest) a n
-in_one-none e rest a n none one = record { number = suc one.number; first = λ k h. rw (none k h, one.first k h) refl }
+in_one-none e rest a n none one = record { index = suc one.index; first = λ k h. rw (none k h, one.first k h) refl }
 
-rest_first : (e : Extent) (rest : List Extent) (a n number : ℕ) → 1 ≤ n → CoversNone e a n → ((k : ℕ) → k < n → first_covering (e ∷ rest) (a + k) ≡ Some number) → IsInOne rest a n
+rest_first : (e : Extent) (rest : List Extent) (a n index : ℕ) → 1 ≤ n → CoversNone e a n → ((k : ℕ) → k < n → first_covering (e ∷ rest) (a + k) ≡ Some index) → IsInOne rest a n
 rest_first e rest a n zero some none first =
     let last : option_map suc (first_covering rest (a + 0)) ≡ Some 0 = rw (none 0 some) at (first 0 some) in
-    absurd (number_is-zero (first_covering rest (a + 0)) last)
+    absurd (index_is-zero (first_covering rest (a + 0)) last)
 rest_first e rest a n (suc i) some none first = record {
-  number = i;
+  index = i;
   first = λ k h.
       let later : option_map suc (first_covering rest (a + k)) ≡ Some (suc i) = rw (none k h) at (first k h) in
-      number_is-suc (first_covering rest (a + k)) i later;
+      index_is-suc (first_covering rest (a + k)) i later;
 }
 
 in_one-all : (e : Extent) (rest : List Extent) (a n : ℕ) → CoversAll e a n → IsInOne (e ∷ rest) a n
-in_one-all e rest a n all = record { number = 0; first = λ k h. rw (all k h) refl }
+in_one-all e rest a n all = record { index = 0; first = λ k h. rw (all k h) refl }
 
 all_first : (e : Extent) (rest : List Extent) (a n : ℕ) → CoversOne e a n → IsInOne (e ∷ rest) a n → CoversAll e a n
 all_first e rest a n touched one k h =
-    let number_is : Some 0 ≡ Some one.number = rw touched.2 at (one.first touched.0 touched.1) in
-    covers_first (covers e (a + k)) (first_covering rest (a + k)) (one.first k h ∙ sym number_is)
+    let index_is : Some 0 ≡ Some one.index = rw touched.2 at (one.first touched.0 touched.1) in
+    covers_first (covers e (a + k)) (first_covering rest (a + k)) (one.first k h ∙ sym index_is)
 
 -- in the range, what is left of a list holds what the whole list holds
 pub record IsLeft (whole left : List Extent) (a n : ℕ) : Type 0 where
@@ -69,7 +69,7 @@ left-none whole left rest e a n is some none was =
     record {
       memory = λ k h. rw (none k h) at (here.memory k h);
       onward = λ one. here.onward (in_one-none e rest a n none one);
-      back = λ one. let was_in = here.back one in rest_first e rest a n was_in.number some none was_in.first;
+      back = λ one. let was_in = here.back one in rest_first e rest a n was_in.index some none was_in.first;
     }
 
 pub left-in_one : (whole left rest : List Extent) (e : Extent) (a n : ℕ) → left ≡ e ∷ rest → IsLeft whole left a n → CoversAll e a n → IsInOne whole a n
@@ -93,5 +93,5 @@ left-bytes whole left rest e a n bytes is was stand =
 pub left-end : (whole left : List Extent) (a n : ℕ) → left ≡ [] → 1 ≤ n → IsLeft whole left a n → IsInOne whole a n → ⊥
 left-end whole left a n is some was one =
     let here : IsLeft whole [] a n = rw is at was in
-    let none : None ≡ Some (here.back one).number = (here.back one).first 0 some in
+    let none : None ≡ Some (here.back one).index = (here.back one).first 0 some in
     grind arith

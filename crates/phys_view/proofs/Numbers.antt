@@ -38,6 +38,6 @@ entry_at-unknown memory a k h unknown =
     let same : a + k ≡ a + k = refl in
     number_at-none memory 8 a k (a + k) h same unknown
 
--- bytes that are gathered one after the other
+-- bytes that are set one after the other
 pub known-set : (memory : Memory) (bytes : List ℕ) (a i v : ℕ) → i < length bytes → ((k : ℕ) → k < i → memory (a + k) ≡ Some (slice_index bytes k)) → memory (a + i) ≡ Some v → (k : ℕ) → k < i + 1 → memory (a + k) ≡ Some (slice_index (set bytes i v) k)
 known-set memory bytes a i v within known here k h = grind (arith, get_or-set_at, get_or-set_other)

@@ -7,16 +7,7 @@ use std::sync::ledger::{Blank, Book, Ledger as Books, Share};
 
 /// A ledger for callers that count nothing: it takes no bytes, and its count stands in proofs alone.
 ///
-/// A caller picks the books at a call of its own that takes them as a parameter, by `Brand` and a blank of one part:
-///
-/// ```text
-/// fn with_books<B: Books>(.., blank: Blank) .. { let mut steps = Steps::new(Uncounted::<B>::new(blank)); .. }
-/// with_books::<Brand>(.., Blank::new(1))
-/// ```
-///
-/// `with_books` requires of `blank` what `new` does, and its caller's `Invariants.antt` says which books are meant:
-/// `ghosts-with_books a = record { name = a.blank.name; parts = a.blank.parts }`, with `g a` in place of `a` where the
-/// caller has type parameters. `entry_uncounted` in the tests of this crate is such a caller.
+/// Code that reads by a counter gets one of this ledger from [`answer_of`](crate::answer_of).
 #[derive(Drop)]
 pub struct Uncounted<B: Books> {
     book: Book<B>,

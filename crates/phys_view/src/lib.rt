@@ -1,13 +1,14 @@
 //! Physical memory as a map from address to byte, over the segments of a core, and the counter of the reads of it.
 #![tactic(auto)]
 
-pub mod ledgers;
+mod ledgers;
 mod lookup;
-pub mod steps;
-pub mod view;
+mod readers;
+mod steps;
+mod view;
 
-pub use elf_core::{Segment, Segments};
 pub use ledgers::{Counted, Uncounted};
+pub use readers::{Reader, answer_and_steps, answer_of};
 pub use steps::{Ledger, Steps};
 pub use view::View;
 

@@ -35,25 +35,27 @@ fn touches(segment: &Segment<'_>, at: u64, len: usize) -> bool
 }
 
 /// The `len` bytes from `at` on, where a segment covers all of them.
-fn held<'a>(segment: &Segment<'a>, at: u64, len: usize) -> Option<&'a [u8]>
+fn run_in<'a>(segment: &Segment<'a>, at: u64, len: usize) -> Option<&'a [u8]>
     requires some { 1 ≤ len }
     ensures found { IsSome result ↔ CoversAll (extent segment.now) at len }
-    ensures value { IfSome result (λ bytes. StandAt (byte_in (extent segment.now ∷ [])) at len bytes.now) }
+    ensures value { IfSome result
+        (λ bytes. StandAt (byte_in (extent segment.now ∷ [])) at len bytes.now) }
 {
     let offset = at.checked_sub(segment.phys)? as usize;
     segment.bytes.get(offset..)?.get(..len)
 }
 
 /// The `len` bytes from `at` on, where one segment is the first that covers each of them.
-pub(crate) fn lent<'a>(segments: &[Segment<'a>], at: u64, len: usize) -> Option<&'a [u8]>
+pub(crate) fn run_in_one_of<'a>(segments: &[Segment<'a>], at: u64, len: usize) -> Option<&'a [u8]>
     requires some { 1 ≤ len }
     requires placed { All IsPlaced (extents segments.now) }
     ensures found { IsSome result ↔ IsInOne (extents segments.now) at len }
-    ensures value { IfSome result (λ bytes. StandAt (byte_in (extents segments.now)) at len bytes.now) }
+    ensures value { IfSome result
+        (λ bytes. StandAt (byte_in (extents segments.now)) at len bytes.now) }
 {
     for segment in segments {
         if touches(segment, at, len) {
-            return held(segment, at, len);
+            return run_in(segment, at, len);
         }
     }
     None
@@ -65,14 +67,14 @@ pub(crate) fn known_entry(segments: &[Segment<'_>], at: u64) -> Option<u64>
     requires placed { All IsPlaced (extents segments.now) }
     ensures { result ≡ entry_at (byte_in (extents segments.now)) at }
 {
-    match lent(segments, at, 8) {
+    match run_in_one_of(segments, at, 8) {
         Some(bytes) => Some(LittleEndian::read_u64(bytes)),
-        None => gathered(segments, at),
+        None => entry_by_bytes(segments, at),
     }
 }
 
-/// The same, byte by byte, each of the first segment that covers it.
-fn gathered(segments: &[Segment<'_>], at: u64) -> Option<u64>
+/// The eight bytes at a multiple of 8 as a little-endian number, each byte that of the first segment that covers it.
+fn entry_by_bytes(segments: &[Segment<'_>], at: u64) -> Option<u64>
     requires { at % 8 ≡ 0 }
     ensures { result ≡ entry_at (byte_in (extents segments.now)) at }
 {

@@ -16,7 +16,7 @@ pub trait Ledger {
         ensures { count self.new ≡ count self.old + 1 };
 }
 
-/// How many steps were taken. A step is one read of an aligned eight-byte place, and only `tick` adds one.
+/// How many steps were taken. A step is one read of a slot, eight bytes at a multiple of 8, and only `tick` adds one.
 ///
 /// Code that is generic over its ledger has no value of it, so it makes no counter of its own: it reads a view only by
 /// the counter that it was handed.

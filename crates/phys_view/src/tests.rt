@@ -1,26 +1,29 @@
-//! Two segments of which the second begins inside the first, and a caller of each ledger.
+//! Two segments of which the second begins inside the first, and a reader of each kind of counter.
 //!
-//! The first holds 0x10 + k at each address 0x1000 + k up to 0x100b, the second 0x20 + k from 0x1008 to 0x101b.
+//! The first has 0x10 + k at each address 0x1000 + k up to 0x100b, the second 0x20 + k from 0x1008 to 0x101b.
 
-ghost use Rattle.std.specs.Prelude.{◌≡◌, ◌+◌, ◌%◌, ◌<◌, ◌≤◌};
+ghost use Rattle.std.specs.Prelude.{◌≡◌, ◌+◌, ◌%◌, ◌≤◌, ⊤};
 ghost use Rattle.paging_model.specs.Memory.{byte_in, entry_at};
-ghost use Rattle.phys_view.specs.Ranges.{places};
+ghost use Rattle.phys_view.specs.Ranges.{slot_count};
 
 use super::*;
+use elf_core::{Segment, Segments};
 use std::alloc::{AllocError, Global};
 use std::marker::Brand;
 use std::mem::size_of;
-use std::sync::ledger::{Blank, Ledger as Books};
 
+/// The bytes of the first segment.
 const FIRST: [u8; 12] = [
     0x10, 0x11, 0x12, 0x13, 0x14, 0x15, 0x16, 0x17, 0x18, 0x19, 0x1a, 0x1b,
 ];
 
+/// The bytes of the second segment.
 const SECOND: [u8; 20] = [
     0x28, 0x29, 0x2a, 0x2b, 0x2c, 0x2d, 0x2e, 0x2f, 0x30, 0x31, 0x32, 0x33, 0x34, 0x35, 0x36, 0x37,
     0x38, 0x39, 0x3a, 0x3b,
 ];
 
+/// The two segments.
 fn overlapping<'a>(
     alloc: Global,
     first: &'a [u8; 12],
@@ -39,24 +42,31 @@ fn overlapping<'a>(
     Ok(Segments::from_vec(items))
 }
 
-// What a caller that counts nothing writes: a call that takes the books, and one that picks them.
-fn entry_with<B: Books>(segments: Segments<'_>, at: u64, blank: Blank) -> Option<u64>
-    requires name { blank.name ≡ B.name }
-    requires parts { blank.parts ≡ B.parts }
-    requires some { 0 < B.parts }
-    requires aligned { at % 8 ≡ 0 }
-    ensures { result ≡ entry_at (byte_in segments.entry) at }
-{
-    let mut steps = Steps::new(Uncounted::<B>::new(blank));
-    let view: View<'_, Uncounted<B>> = View::new(segments);
-    view.entry(at, &mut steps)
+/// A read of one entry.
+struct EntryRead<'a> {
+    segments: Segments<'a>,
+    at: u64,
+    ghost aligned: { at % 8 ≡ 0 },
 }
 
-fn entry_uncounted(segments: Segments<'_>, at: u64) -> Option<u64>
+impl<'a> Reader for EntryRead<'a> {
+    type Answer = Option<u64>;
+
+    ghost gives = { λ reader answer. answer ≡ entry_at (byte_in reader.segments) reader.at };
+
+    fn read<L: Ledger>(self, steps: &mut Steps<L>) -> Option<u64> {
+        let EntryRead { segments, at } = self;
+        let view: View<'_, L> = View::new(segments);
+        view.entry(at, steps)
+    }
+}
+
+/// The entry at an address, read by a caller that counts nothing.
+fn uncounted_entry(segments: Segments<'_>, at: u64) -> Option<u64>
     requires { at % 8 ≡ 0 }
     ensures { result ≡ entry_at (byte_in segments.entry) at }
 {
-    entry_with::<Brand>(segments, at, Blank::new(1))
+    answer_of(EntryRead { segments, at })
 }
 
 /// What a view answers at an address.
@@ -69,51 +79,55 @@ struct Answers {
     run: bool,
 }
 
-fn read_at<L: Ledger>(
-    segments: Segments<'_>,
+/// A read of a byte, of the entry that it lies in, and of a run that begins with it.
+struct Reads<'a> {
+    segments: Segments<'a>,
     at: u64,
-    want: Option<&[u8]>,
+    want: Option<&'a [u8]>,
     len: usize,
-    steps: &mut Steps<L>,
-) -> Answers
-    requires some { 1 ≤ len }
-    requires within { at % 4096 + len ≤ 4096 }
-    ensures { steps.new ≡ steps.old + 2 + places at len }
-{
-    let view: View<'_, L> = View::new(segments);
-    Answers {
-        byte: view.byte(at, steps),
-        entry: view.entry(at - at % 8, steps),
-        run: view.run(at, len, steps) == want,
+    ghost some: { 1 ≤ len },
+    ghost within: { at % 4096 + len ≤ 4096 },
+}
+
+impl<'a> Reader for Reads<'a> {
+    type Answer = Answers;
+
+    ghost gives = { λ _ _. ⊤ };
+
+    fn read<L: Ledger>(self, steps: &mut Steps<L>) -> Answers
+        ensures { steps.new ≡ steps.old + 2 + slot_count self.entry.at self.entry.len }
+    {
+        let Reads {
+            segments,
+            at,
+            want,
+            len,
+        } = self;
+        let view: View<'_, L> = View::new(segments);
+        Answers {
+            byte: view.byte(at, steps),
+            entry: view.entry(at - at % 8, steps),
+            run: view.run(at, len, steps) == want,
+        }
     }
 }
 
-// The answers, and the steps of the three reads together as a ledger counts them that really counts.
-fn counted_with<B: Books>(
+/// The answers, and the steps of the three reads together as a ledger counts them that really counts.
+fn answers_and_steps(
     segments: Segments<'_>,
     at: u64,
     want: Option<&[u8]>,
     len: usize,
-    blank: Blank,
 ) -> (Answers, u64)
-    requires name { blank.name ≡ B.name }
-    requires parts { blank.parts ≡ B.parts }
-    requires owner { 0 < B.parts }
     requires some { 1 ≤ len }
     requires within { at % 4096 + len ≤ 4096 }
 {
-    let mut number = 0;
-    let mut steps = Steps::new(Counted::<B>::new(&mut number, blank));
-    let answers = read_at(segments, at, want, len, &mut steps);
-    drop(steps);
-    (answers, number)
-}
-
-fn counted(segments: Segments<'_>, at: u64, want: Option<&[u8]>, len: usize) -> (Answers, u64)
-    requires some { 1 ≤ len }
-    requires within { at % 4096 + len ≤ 4096 }
-{
-    counted_with::<Brand>(segments, at, want, len, Blank::new(1))
+    answer_and_steps(Reads {
+        segments,
+        at,
+        want,
+        len,
+    })
 }
 
 #[test]
@@ -121,7 +135,7 @@ fn a_counter_of_a_caller_that_counts_nothing_takes_no_bytes(rt: HostRuntime) {
     assert_eq!(rt; size_of::<Steps<Uncounted<Brand>>>(), 0);
     let segments = overlapping(rt.alloc(), &FIRST, &SECOND).expect(&rt, "memory");
     assert_eq!(rt;
-        entry_uncounted(segments, 0x1000),
+        uncounted_entry(segments, 0x1000),
         Some(0x1716_1514_1312_1110)
     );
 }
@@ -131,7 +145,7 @@ fn the_first_segment_in_order_counts(rt: HostRuntime) {
     let segments = overlapping(rt.alloc(), &FIRST, &SECOND).expect(&rt, "memory");
     // The entry lies across both segments.
     assert_eq!(rt;
-        counted(segments, 0x100a, Some(&[0x1a, 0x1b]), 2),
+        answers_and_steps(segments, 0x100a, Some(&[0x1a, 0x1b]), 2),
         (
             Answers {
                 byte: Some(0x1a),
@@ -144,10 +158,10 @@ fn the_first_segment_in_order_counts(rt: HostRuntime) {
 }
 
 #[test]
-fn a_run_over_two_segments_is_not_lent(rt: HostRuntime) {
+fn a_run_over_two_segments_is_not_borrowed(rt: HostRuntime) {
     let segments = overlapping(rt.alloc(), &FIRST, &SECOND).expect(&rt, "memory");
     assert_eq!(rt;
-        counted(segments, 0x1001, None, 15),
+        answers_and_steps(segments, 0x1001, None, 15),
         (
             Answers {
                 byte: Some(0x11),
@@ -160,10 +174,10 @@ fn a_run_over_two_segments_is_not_lent(rt: HostRuntime) {
 }
 
 #[test]
-fn the_second_segment_is_lent_from_where_the_first_ends(rt: HostRuntime) {
+fn the_second_segment_is_borrowed_from_where_the_first_ends(rt: HostRuntime) {
     let segments = overlapping(rt.alloc(), &FIRST, &SECOND).expect(&rt, "memory");
     assert_eq!(rt;
-        counted(segments, 0x100c, Some(&SECOND[4..]), 16),
+        answers_and_steps(segments, 0x100c, Some(&SECOND[4..]), 16),
         (
             Answers {
                 byte: Some(0x2c),
@@ -180,7 +194,7 @@ fn memory_is_unknown_outside_the_segments(rt: HostRuntime) {
     let segments = overlapping(rt.alloc(), &FIRST, &SECOND).expect(&rt, "memory");
     // The last known byte, and an entry that goes past it.
     assert_eq!(rt;
-        counted(segments, 0x101b, None, 2),
+        answers_and_steps(segments, 0x101b, None, 2),
         (
             Answers {
                 byte: Some(0x3b),
@@ -196,16 +210,16 @@ fn memory_is_unknown_outside_the_segments(rt: HostRuntime) {
         run: true,
     };
     let segments = overlapping(rt.alloc(), &FIRST, &SECOND).expect(&rt, "memory");
-    assert_eq!(rt; counted(segments, 0x101c, None, 1), (unknown, 3));
+    assert_eq!(rt; answers_and_steps(segments, 0x101c, None, 1), (unknown, 3));
     let segments = overlapping(rt.alloc(), &FIRST, &SECOND).expect(&rt, "memory");
-    assert_eq!(rt; counted(segments, 0xfff, None, 1), (unknown, 3));
+    assert_eq!(rt; answers_and_steps(segments, 0xfff, None, 1), (unknown, 3));
 }
 
 #[test]
-fn a_run_of_a_page_takes_a_step_for_each_place(rt: HostRuntime) {
+fn a_run_of_a_page_takes_a_step_for_each_slot(rt: HostRuntime) {
     let segments = overlapping(rt.alloc(), &FIRST, &SECOND).expect(&rt, "memory");
     assert_eq!(rt;
-        counted(segments, 0x1000, None, 4096),
+        answers_and_steps(segments, 0x1000, None, 4096),
         (
             Answers {
                 byte: Some(0x10),

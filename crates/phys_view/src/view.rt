@@ -3,9 +3,9 @@
 ghost use Rattle.std.specs.Prelude.{◌≡◌, ℕ, ◌+◌, ◌%◌, ◌≤◌, ◌↔◌, IsSome, IfSome};
 ghost use Rattle.paging_model.specs.Memory.{byte_in, entry_at};
 ghost use Rattle.phys_view.specs.Seen.{Seen, memory_of};
-ghost use Rattle.phys_view.specs.Ranges.{IsInOne, StandAt, places};
+ghost use Rattle.phys_view.specs.Ranges.{IsInOne, StandAt, slot_count};
 
-use crate::lookup::{known_byte, known_entry, lent};
+use crate::lookup::{known_byte, known_entry, run_in_one_of};
 use crate::steps::{Ledger, Steps};
 use elf_core::Segments;
 use std::marker::{Model, PhantomData};
@@ -26,7 +26,7 @@ impl<'a, L: Ledger> Model for View<'a, L> {
 }
 
 impl<'a, L: Ledger> View<'a, L> {
-    /// Memory as the segments alone tell it. Takes no memory, and copies nothing.
+    /// Memory as the segments alone give it. Takes no memory, and copies nothing.
     pub fn new(segments: Segments<'a>) -> View<'a, L>
         ensures value { result ≡ record { extents = segments.entry } }
         ensures memory { (a : ℕ) → memory_of result a ≡ byte_in segments.entry a }
@@ -56,19 +56,19 @@ impl<'a, L: Ledger> View<'a, L> {
         known_entry(self.segments.as_slice(), at)
     }
 
-    /// Lends a range of at most 4,096 bytes in one page, where one segment is the first that covers each of them.
+    /// Borrows a range of at most 4,096 bytes in one page, where one segment is the first that covers each of them.
     ///
-    /// A step is taken for each aligned eight-byte place that the range touches, whatever the answer is.
+    /// A step is taken for each slot that the range touches, whatever the answer is.
     pub fn run(&self, at: u64, len: usize, steps: &mut Steps<L>) -> Option<&[u8]>
         requires some { 1 ≤ len }
         requires within { at % 4096 + len ≤ 4096 }
         ensures found { IsSome result ↔ IsInOne self.now.extents at len }
         ensures value { IfSome result (λ bytes. StandAt (memory_of self.now) at len bytes.now) }
-        ensures cost { steps.new ≡ steps.old + places at len }
+        ensures cost { steps.new ≡ steps.old + slot_count at len }
     {
         for _ in 0..((at % 8) as usize + len).div_ceil(8) {
             steps.tick();
         }
-        lent(self.segments.as_slice(), at, len)
+        run_in_one_of(self.segments.as_slice(), at, len)
     }
 }

@@ -1,4 +1,4 @@
-//! The places of the register bits that paging goes by, by their names in the manual.
+//! The indices of the register bits that paging goes by, under their names in the manual.
 
 /// Protection enable.
 pub const CR0_PE: u8 = 0;

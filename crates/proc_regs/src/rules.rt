@@ -1,7 +1,7 @@
 //! Which register states and changes are refused.
 
 ghost use Rattle.std.specs.Prelude.{◌≡◌, OnErr};
-ghost use Rattle.paging_model.specs.RegisterRules.{after_change, change_of, changed, changes_la57, check_of, keeps_without_pcid, not_long, paging_off, past_the_width, starts_with_pcid};
+ghost use Rattle.paging_model.specs.RegisterRules.{after_change, change_of, with_change, changes_la57, check_of, keeps_without_pcid, not_long, paging_off, past_the_width, starts_with_pcid};
 
 use crate::bit_ranges::{bit, field, some_bit};
 use crate::register_bits::{
@@ -9,7 +9,7 @@ use crate::register_bits::{
 };
 use paging_model::registers::{Machine, RegChange, RegRule, Regs};
 
-/// Looks a register state over.
+/// Checks a register state.
 ///
 /// # Errors
 ///
@@ -48,11 +48,11 @@ pub fn change(regs: &mut Regs, machine: &Machine, change: RegChange) -> Result<(
     ensures refused { OnErr result (regs.new ≡ regs.old) }
 {
     check_change(machine, change, regs)?;
-    *regs = changed(change, regs);
+    *regs = with_change(change, regs);
     Ok(())
 }
 
-// Looks a change over before it is made: each rule in its place, the first from the top.
+/// Checks a change before it is made. The first rule from the top that refuses it counts.
 fn check_change(machine: &Machine, change: RegChange, regs: &Regs) -> Result<(), RegRule>
     ensures { result ≡ change_of machine.now change regs.now }
 {
@@ -68,9 +68,9 @@ fn check_change(machine: &Machine, change: RegChange, regs: &Regs) -> Result<(),
     }
 }
 
-// The registers with one of them changed, whether or not a rule refuses that.
-fn changed(change: RegChange, regs: &Regs) -> Regs
-    ensures { result ≡ changed change regs.now }
+/// The registers with one of them changed, whether or not a rule refuses that.
+fn with_change(change: RegChange, regs: &Regs) -> Regs
+    ensures { result ≡ with_change change regs.now }
 {
     match change {
         RegChange::Cr0(cr0) => Regs { cr0, ..*regs },
@@ -86,40 +86,42 @@ fn changed(change: RegChange, regs: &Regs) -> Regs
     }
 }
 
+/// Whether CR0.PE or CR0.PG is 0.
 fn is_paging_off(regs: &Regs) -> bool
     ensures { result ≡ paging_off regs.now }
 {
     !bit(regs.cr0, CR0_PE) || !bit(regs.cr0, CR0_PG)
 }
 
+/// Whether EFER.LME or EFER.LMA is 0.
 fn is_not_long(regs: &Regs) -> bool
     ensures { result ≡ not_long regs.now }
 {
     !bit(regs.efer, EFER_LME) || !bit(regs.efer, EFER_LMA)
 }
 
-// Whether a value for CR4 has another LA57.
+/// Whether a value for CR4 has another LA57.
 fn changes_la57(cr4: u64, regs: &Regs) -> bool
     ensures { result ≡ changes_la57 cr4 regs.now }
 {
     bit(cr4, CR4_LA57) != bit(regs.cr4, CR4_LA57)
 }
 
-// Whether a value for CR4 turns PCIDs on while CR3 bits 11:0 aren't 0.
+/// Whether a value for CR4 turns PCIDs on while CR3 bits 11:0 aren't 0.
 fn starts_with_pcid(cr4: u64, regs: &Regs) -> bool
     ensures { result ≡ starts_with_pcid cr4 regs.now }
 {
     bit(cr4, CR4_PCIDE) && !bit(regs.cr4, CR4_PCIDE) && some_bit(regs.cr3, 11, 0)
 }
 
-// Whether a value for CR3 keeps the translations of its PCID while PCIDs are off.
+/// Whether a value for CR3 keeps the translations of its PCID while PCIDs are off.
 fn keeps_without_pcid(cr3: u64, regs: &Regs) -> bool
     ensures { result ≡ keeps_without_pcid cr3 regs.now }
 {
     bit(cr3, CR3_KEEP) && !bit(regs.cr4, CR4_PCIDE)
 }
 
-// Whether a value for CR3 has one of the bits between the root and those of linear-address masking.
+/// Whether a value for CR3 has one of the bits between the root and those of linear-address masking.
 fn is_past_the_width(machine: &Machine, cr3: u64) -> bool
     ensures { result ≡ past_the_width machine.now cr3 }
 {

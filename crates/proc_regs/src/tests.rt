@@ -2,18 +2,10 @@
 
 use super::*;
 use crate::bit_ranges::{bit, field, in_place, some_bit};
+use paging_model::registers::{Machine, RegChange, RegRule, Regs, Settings};
+use test_support::registers::REGS;
 
-/// 64-bit paging with 4 levels, write protection, execute-disable and a root at 0x1000.
-const STATE: Regs = Regs {
-    cr0: 0x8001_0001,
-    cr3: 0x1000,
-    cr4: 0x20,
-    efer: 0xd00,
-    ac: false,
-    pkru: 0,
-    pkrs: 0,
-};
-
+/// A physical width of 40, and 1-GByte pages.
 const MACHINE: Machine = Machine { m: 40, big: true };
 
 #[test]
@@ -29,11 +21,11 @@ fn reads_bits(rt: HostRuntime) {
 #[test]
 fn refuses_states_outside_64_bit_paging(rt: HostRuntime) {
     let states = [
-        (STATE, Ok(())),
+        (REGS, Ok(())),
         (
             Regs {
                 cr0: 0x8001_0000,
-                ..STATE
+                ..REGS
             },
             Err(RegRule::PagingOff),
         ),
@@ -41,7 +33,7 @@ fn refuses_states_outside_64_bit_paging(rt: HostRuntime) {
             Regs {
                 cr0: 0x1_0001,
                 efer: 0,
-                ..STATE
+                ..REGS
             },
             Err(RegRule::PagingOff),
         ),
@@ -49,49 +41,49 @@ fn refuses_states_outside_64_bit_paging(rt: HostRuntime) {
             Regs {
                 efer: 0x900,
                 cr4: 0,
-                ..STATE
+                ..REGS
             },
             Err(RegRule::NotLong),
         ),
         (
             Regs {
                 efer: 0xc00,
-                ..STATE
+                ..REGS
             },
             Err(RegRule::NotLong),
         ),
         (
             Regs {
                 cr4: 0xffff_ffdf,
-                ..STATE
+                ..REGS
             },
             Err(RegRule::NoPae),
         ),
         (
             Regs {
                 cr3: 0x100_0000_1000,
-                ..STATE
+                ..REGS
             },
             Err(RegRule::Cr3Reserved),
         ),
         (
             Regs {
                 cr3: 0x1000_0000_0000_1000,
-                ..STATE
+                ..REGS
             },
             Err(RegRule::Cr3Reserved),
         ),
         (
             Regs {
                 cr3: 0x8000_0000_0000_1000,
-                ..STATE
+                ..REGS
             },
             Err(RegRule::Cr3Reserved),
         ),
         (
             Regs {
                 cr3: 0x6000_00ff_ffff_ffff,
-                ..STATE
+                ..REGS
             },
             Ok(()),
         ),
@@ -106,7 +98,7 @@ fn reads_what_the_registers_set(rt: HostRuntime) {
     let state = Regs {
         cr3: 0x6000_00ff_ffff_ffff,
         cr4: 0x1020,
-        ..STATE
+        ..REGS
     };
     assert_eq!(rt; root(&state, &MACHINE), 0xff_ffff_f000);
     let wide = Settings {
@@ -126,7 +118,7 @@ fn reads_what_the_registers_set(rt: HostRuntime) {
         settings(
             &Regs {
                 efer: 0x500,
-                ..STATE
+                ..REGS
             },
             &MACHINE
         ),
@@ -135,10 +127,10 @@ fn reads_what_the_registers_set(rt: HostRuntime) {
 }
 
 #[test]
-fn tells_the_current_pcid(rt: HostRuntime) {
+fn gives_the_current_pcid(rt: HostRuntime) {
     let state = Regs {
         cr3: 0x1fff,
-        ..STATE
+        ..REGS
     };
     assert_eq!(rt; pcid(&state), 0);
     let state = Regs {
@@ -149,7 +141,7 @@ fn tells_the_current_pcid(rt: HostRuntime) {
 }
 
 #[test]
-fn tells_canonical_addresses(rt: HostRuntime) {
+fn separates_canonical_addresses(rt: HostRuntime) {
     assert!(rt; canonical(false, 0x7fff_ffff_ffff));
     assert!(rt; !canonical(false, 0x8000_0000_0000));
     assert!(rt; canonical(false, 0xffff_8000_0000_0000));
@@ -160,7 +152,7 @@ fn tells_canonical_addresses(rt: HostRuntime) {
 
 #[test]
 fn changes_one_register(rt: HostRuntime) {
-    let mut state = STATE;
+    let mut state = REGS;
     let changes = [
         RegChange::Cr4(0x2_00a0),
         RegChange::Cr3(0xe000_0000_0000_2005),
@@ -189,20 +181,20 @@ fn changes_one_register(rt: HostRuntime) {
 fn refuses_changes(rt: HostRuntime) {
     let with_pcid = Regs {
         cr3: 0x1001,
-        ..STATE
+        ..REGS
     };
     let changes = [
-        (STATE, RegChange::Cr0(0x1_0001), RegRule::PagingOff),
-        (STATE, RegChange::Efer(0x900), RegRule::NotLong),
-        (STATE, RegChange::Cr4(0x1000), RegRule::NoPae),
+        (REGS, RegChange::Cr0(0x1_0001), RegRule::PagingOff),
+        (REGS, RegChange::Efer(0x900), RegRule::NotLong),
+        (REGS, RegChange::Cr4(0x1000), RegRule::NoPae),
         (with_pcid, RegChange::Cr4(0x2_1020), RegRule::La57Changed),
         (with_pcid, RegChange::Cr4(0x2_0020), RegRule::PcidNotZero),
         (
-            STATE,
+            REGS,
             RegChange::Cr3(0x8000_0100_0000_1000),
             RegRule::KeepBitWithoutPcid,
         ),
-        (STATE, RegChange::Cr3(0x100_0000_1000), RegRule::Cr3Reserved),
+        (REGS, RegChange::Cr3(0x100_0000_1000), RegRule::Cr3Reserved),
     ];
     for (before, refused, rule) in changes {
         let mut state = before;

@@ -5,7 +5,7 @@ use Rattle.paging_model.specs.Walking.{own_frame}
 
 -- it is a frame of its own, and ends where the page does at the latest
 pub own_frame-within : (level frame x : ℕ) → 1 ≤ level → level ≤ 3 → frame % span level ≡ 0 → frame + span level ≤ 2 ^ 52
-    → (own_frame level frame x % 4096 ≡ 0) × (own_frame level frame x + 4096 ≤ 2 ^ 52)
+    → (own_frame level x frame % 4096 ≡ 0) × (own_frame level x frame + 4096 ≤ 2 ^ 52)
 own_frame-within zero frame x least most aligned ends = absurd (omega arith)
 own_frame-within (suc zero) frame x least most aligned ends = (omega arith, omega arith)
 own_frame-within (suc (suc zero)) frame x least most aligned ends = (omega arith, omega arith)

@@ -7,7 +7,6 @@
 mod linear_addresses;
 mod walking;
 
-pub use paging_model::walks::{Page, Walk};
 pub use walking::walk;
 
 #[cfg(test)]

@@ -1,4 +1,4 @@
-//! How an address selects an entry of each table, and a place in a page.
+//! How an address selects an entry of each table, and an offset in a page.
 
 ghost use Rattle.std.specs.Prelude.{◌≡◌, ◌+◌, ◌%◌, ◌^◌, ◌<◌, ◌≤◌};
 ghost use Rattle.paging_model.specs.LinearAddress.{span as span_of};
@@ -17,7 +17,7 @@ pub(crate) fn entry_address(level: u8, table: u64, address: u64) -> u64
     requires most { level ≤ 5 }
     requires aligned { table % 4096 ≡ 0 }
     requires below { table < 2 ^ 52 }
-    ensures value { result ≡ entry_address_of level table address }
+    ensures value { result ≡ entry_address_of level address table }
     ensures aligned { result % 8 ≡ 0 }
 {
     table + ENTRY_SIZE * (address / span(level) % ENTRIES)
@@ -29,7 +29,7 @@ pub(crate) fn own_frame(level: u8, frame: u64, address: u64) -> u64
     requires most { level ≤ 3 }
     requires aligned { frame % span_of level ≡ 0 }
     requires ends { frame + span_of level ≤ 2 ^ 52 }
-    ensures value { result ≡ own_frame_of level frame address }
+    ensures value { result ≡ own_frame_of level address frame }
     ensures aligned { result % 4096 ≡ 0 }
     ensures ends { result + 4096 ≤ 2 ^ 52 }
 {

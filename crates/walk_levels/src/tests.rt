@@ -1,23 +1,23 @@
-//! Walks of small page tables built by hand, and walks of chance compared with a plain reading of the manual.
+//! Walks of small page tables built by hand, and random walks compared with a plain reading of the manual.
 
-ghost use Rattle.std.specs.Prelude.{◌≡◌, ◌<◌, ◌≤◌, ◌+◌, ◌%◌, ◌^◌, length};
+ghost use Rattle.std.specs.Prelude.{◌≡◌, ◌<◌, ◌≤◌, ◌%◌, ◌^◌, length, ⊤};
 
 mod by_hand;
 mod by_the_text;
 
 use super::*;
-use entry_decode::Bits;
-use phys_view::{Counted, Ledger, Segment, Segments, Steps, View};
-use proc_regs::Settings;
+use elf_core::{Segment, Segments};
+use paging_model::entries::Bits;
+use paging_model::registers::Settings;
+use paging_model::walks::{Page, Walk};
+use phys_view::{Ledger, Reader, Steps, View, answer_and_steps};
 use std::alloc::{AllocError, Global};
-use std::marker::Brand;
 use std::process::Abort;
-use std::sync::ledger::{Blank, Ledger as Books};
 
 /// The bytes of memory, from physical address 0 on.
 const SIZE: usize = 0x8000;
 
-/// The settings of a physical width of 40, with 1-GByte pages, 5 levels and execute-disable as told.
+/// The settings of a physical width of 40, with 1-GByte pages, 5 levels and execute-disable or without.
 fn settings(big: bool, la57: bool, nxe: bool) -> Settings {
     Settings {
         m: 40,
@@ -27,6 +27,7 @@ fn settings(big: bool, la57: bool, nxe: bool) -> Settings {
     }
 }
 
+/// Bytes of memory from physical address 0 on.
 fn segments<'a>(alloc: Global, bytes: &'a [u8]) -> Result<Segments<'a>, AllocError>
     requires some { 0 < length bytes.now }
     requires most { length bytes.now ≤ SIZE }
@@ -34,42 +35,35 @@ fn segments<'a>(alloc: Global, bytes: &'a [u8]) -> Result<Segments<'a>, AllocErr
     Ok(Segments::from_vec(vec![in alloc; Segment { phys: 0, bytes }]?))
 }
 
-fn walk_over<L: Ledger>(
-    segments: Segments<'_>,
-    settings: &Settings,
+/// A walk over segments.
+struct WalkRead<'a> {
+    segments: Segments<'a>,
+    settings: &'a Settings,
     root: u64,
     address: u64,
-    steps: &mut Steps<L>,
-) -> Walk
-    requires aligned { root % 4096 ≡ 0 }
-    requires below { root < 2 ^ 52 }
-{
-    let view: View<'_, L> = View::new(segments);
-    walk(&view, settings, root, address, steps)
+    ghost aligned: { root % 4096 ≡ 0 },
+    ghost below: { root < 2 ^ 52 },
 }
 
-fn counted_with<B: Books>(
-    segments: Segments<'_>,
-    settings: &Settings,
-    root: u64,
-    address: u64,
-    blank: Blank,
-) -> (Walk, u64)
-    requires name { blank.name ≡ B.name }
-    requires parts { blank.parts ≡ B.parts }
-    requires some { 0 < B.parts }
-    requires aligned { root % 4096 ≡ 0 }
-    requires below { root < 2 ^ 52 }
-{
-    let mut number = 0;
-    let mut steps = Steps::new(Counted::<B>::new(&mut number, blank));
-    let end = walk_over(segments, settings, root, address, &mut steps);
-    drop(steps);
-    (end, number)
+impl<'a> Reader for WalkRead<'a> {
+    type Answer = Walk;
+
+    ghost gives = { λ _ _. ⊤ };
+
+    fn read<L: Ledger>(self, steps: &mut Steps<L>) -> Walk {
+        let WalkRead {
+            segments,
+            settings,
+            root,
+            address,
+        } = self;
+        let view: View<'_, L> = View::new(segments);
+        walk(&view, settings, root, address, steps)
+    }
 }
 
 /// How the walk over these bytes ends, and its steps as a ledger counts them that really counts.
-fn counted(
+fn walk_and_steps(
     rt: &impl Abort,
     alloc: Global,
     bytes: &[u8],
@@ -80,5 +74,10 @@ fn counted(
     assert!(rt; !bytes.is_empty() && bytes.len() <= SIZE);
     assert!(rt; root % 4096 == 0 && root < 1 << 52);
     let segments = segments(alloc, bytes)?;
-    Ok(counted_with::<Brand>(segments, settings, root, address, Blank::new(1)))
+    Ok(answer_and_steps(WalkRead {
+        segments,
+        settings,
+        root,
+        address,
+    }))
 }

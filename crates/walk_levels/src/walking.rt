@@ -3,13 +3,14 @@
 ghost use Rattle.std.specs.Prelude.{◌≡◌, ◌+◌, ◌%◌, ◌^◌, ◌<◌, ◌≤◌};
 ghost use Rattle.paging_model.specs.Walking.{top_level as top_level_of, walk as walk_of};
 ghost use Rattle.phys_view.specs.Seen.{memory_of};
-ghost use Rattle.walk_levels.specs.Ends.{HasPage, last_level};
+ghost use Rattle.walk_levels.specs.WalkEnds.{HasPage, last_level};
 
 use crate::linear_addresses::{entry_address, own_frame};
-use entry_decode::{Bits, Entry, decode, join};
+use entry_decode::{decode, join};
+use paging_model::entries::{Bits, Entry};
+use paging_model::registers::Settings;
 use paging_model::walks::{Page, Walk};
 use phys_view::{Ledger, Steps, View};
-use proc_regs::Settings;
 
 /// Walks from the root down to the page of an address. One entry a level is read, at most five in all.
 pub fn walk<L: Ledger>(

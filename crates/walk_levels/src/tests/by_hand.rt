@@ -2,6 +2,7 @@
 
 use super::*;
 use std::test::Fail;
+use test_support::fields::put;
 
 /// A PML4 at 0x1000, a PDPT at 0x2000, a PD at 0x3000 and a PT at 0x4000, which maps two pages. A PML5 at 0x7000.
 const TABLES: [(usize, u64); 6] = [
@@ -16,24 +17,19 @@ const TABLES: [(usize, u64); 6] = [
 /// A root, further entries, an address, how its walk ends, and in how many steps.
 type Row<'a> = (u64, &'a [(usize, u64)], u64, Walk, u64);
 
-fn put(memory: &mut [u8], place: usize, value: u64) {
-    for (byte, new) in memory.iter_mut().skip(place).zip(value.to_le_bytes()) {
-        *byte = new;
-    }
-}
-
 /// Memory that is 0 but for the tables and these entries.
 fn memory(alloc: Global, entries: &[(usize, u64)]) -> Result<Vec<u8>, AllocError> {
     let mut bytes = vec![in alloc; 0; SIZE]?;
-    for (place, value) in TABLES {
-        put(&mut bytes, place, value);
+    for (at, value) in TABLES {
+        put(&mut bytes, (at, 8, value));
     }
-    for &(place, value) in entries {
-        put(&mut bytes, place, value);
+    for &(at, value) in entries {
+        put(&mut bytes, (at, 8, value));
     }
     Ok(bytes)
 }
 
+/// Asserts how walks end, and in how many steps.
 fn check(
     rt: &impl Abort,
     alloc: Global,
@@ -42,18 +38,19 @@ fn check(
 ) -> Result<(), AllocError> {
     for &(root, entries, address, end, steps) in rows {
         let bytes = memory(alloc, entries)?;
-        let walked = counted(rt, alloc, &bytes, settings, root, address)?;
+        let walked = walk_and_steps(rt, alloc, &bytes, settings, root, address)?;
         assert_eq!(rt; walked, (end, steps), "{address:#x}");
     }
     Ok(())
 }
 
+/// Joined bits.
 fn bits(write: bool, user: bool, xd: bool) -> Bits {
     Bits { write, user, xd }
 }
 
 /// A page with the key 0 that isn't global.
-fn mapped(frame: u64, level: u8, bits: Bits) -> Walk {
+fn page(frame: u64, level: u8, bits: Bits) -> Walk {
     Walk::Mapped(Page {
         frame,
         level,
@@ -67,12 +64,12 @@ fn mapped(frame: u64, level: u8, bits: Bits) -> Walk {
 fn four_levels(rt: HostRuntime) -> Result<(), Fail> {
     let all = bits(true, true, false);
     let rows: [Row<'_>; 9] = [
-        (0x1000, &[], 0x123, mapped(0x5000, 1, all), 4),
+        (0x1000, &[], 0x123, page(0x5000, 1, all), 4),
         (
             0x1000,
             &[],
             0x1234,
-            mapped(0x6000, 1, bits(false, true, false)),
+            page(0x6000, 1, bits(false, true, false)),
             4,
         ),
         (0x1000, &[], 0x2000, Walk::Absent(1), 4),
@@ -80,7 +77,7 @@ fn four_levels(rt: HostRuntime) -> Result<(), Fail> {
         (0x1000, &[], 0x4000_0000, Walk::Absent(3), 2),
         (0x1000, &[], 0x80_0000_0000, Walk::Absent(4), 1),
         // Bits above 47 select nothing.
-        (0x1000, &[], 0x1_0000_0000_0123, mapped(0x5000, 1, all), 4),
+        (0x1000, &[], 0x1_0000_0000_0123, page(0x5000, 1, all), 4),
         // A different entry of each table.
         (
             0x1000,
@@ -91,7 +88,7 @@ fn four_levels(rt: HostRuntime) -> Result<(), Fail> {
                 (0x4020, 0x9007),
             ],
             0x80_8060_4abc,
-            mapped(0x9000, 1, all),
+            page(0x9000, 1, all),
             4,
         ),
         // A table whose last entry references the table itself serves at each level.
@@ -99,7 +96,7 @@ fn four_levels(rt: HostRuntime) -> Result<(), Fail> {
             0x1000,
             &[(0x1ff8, 0x1007)],
             0xffff_ffff_ffff_f000,
-            mapped(0x1000, 1, all),
+            page(0x1000, 1, all),
             4,
         ),
     ];
@@ -111,14 +108,14 @@ fn four_levels(rt: HostRuntime) -> Result<(), Fail> {
 fn five_levels(rt: HostRuntime) -> Result<(), Fail> {
     let all = bits(true, true, false);
     let rows: [Row<'_>; 5] = [
-        (0x7000, &[], 0x123, mapped(0x5000, 1, all), 5),
+        (0x7000, &[], 0x123, page(0x5000, 1, all), 5),
         (0x7000, &[], 0x8000_0000_0000, Walk::Absent(4), 2),
         (0x7000, &[], 0x1_0000_0000_0000, Walk::Absent(5), 1),
         (
             0x7000,
             &[(0x7028, 0x1007)],
             0x5_0000_0000_0123,
-            mapped(0x5000, 1, all),
+            page(0x5000, 1, all),
             5,
         ),
         (0x7000, &[(0x7000, 0x1087)], 0x123, Walk::Reserved(5), 1),
@@ -135,28 +132,28 @@ fn large_pages(rt: HostRuntime) -> Result<(), Fail> {
             0x1000,
             &[(0x3000, 0x40_10e7)],
             0x1234,
-            mapped(0x40_1000, 2, all),
+            page(0x40_1000, 2, all),
             3,
         ),
         (
             0x1000,
             &[(0x3000, 0x40_10e7)],
             0x1f_ffff,
-            mapped(0x5f_f000, 2, all),
+            page(0x5f_f000, 2, all),
             3,
         ),
         (
             0x1000,
             &[(0x2000, 0x4000_00e7)],
             0x1234,
-            mapped(0x4000_1000, 3, all),
+            page(0x4000_1000, 3, all),
             2,
         ),
         (
             0x1000,
             &[(0x2000, 0x4000_00e7)],
             0x3fff_ffff,
-            mapped(0x7fff_f000, 3, all),
+            page(0x7fff_f000, 3, all),
             2,
         ),
         (0x1000, &[(0x3000, 0x40_20e7)], 0x1234, Walk::Reserved(2), 3),
@@ -194,14 +191,14 @@ fn bits_of_all_entries(rt: HostRuntime) -> Result<(), Fail> {
             0x1000,
             &[(0x1000, 0x2003), (0x2000, 0x3003), (0x3000, 0x4003)],
             0x0,
-            mapped(0x5000, 1, bits(true, false, false)),
+            page(0x5000, 1, bits(true, false, false)),
             4,
         ),
         (
             0x1000,
             &[(0x2000, 0x3003)],
             0x0,
-            mapped(0x5000, 1, bits(true, false, false)),
+            page(0x5000, 1, bits(true, false, false)),
             4,
         ),
         // XD in the top table alone.
@@ -209,7 +206,7 @@ fn bits_of_all_entries(rt: HostRuntime) -> Result<(), Fail> {
             0x1000,
             &[(0x1000, 0x8000_0000_0000_2007)],
             0x0,
-            mapped(0x5000, 1, bits(true, true, true)),
+            page(0x5000, 1, bits(true, true, true)),
             4,
         ),
         // One bit at each level; the key and G of the leaf alone.

@@ -2,15 +2,16 @@
 
 use super::*;
 use std::test::Fail;
+use test_support::fields::put;
 
-/// The entry at a place, of memory that begins at physical address 0.
-fn entry(bytes: &[u8], place: u64) -> Option<u64> {
-    let bytes = bytes.get(place as usize..)?.get(..8)?;
+/// The entry at an address, of memory that begins at physical address 0.
+fn entry(bytes: &[u8], at: u64) -> Option<u64> {
+    let bytes = bytes.get(at as usize..)?.get(..8)?;
     Some(bytes.iter().rev().fold(0, |high: u64, &low| high.wrapping_mul(256) | u64::from(low)))
 }
 
 /// "Bits 11:3 are bits 47:39 of the linear address. Bits 2:0 are all 0." So for the PML4E, and lower for each level.
-fn place_in_table(level: u8, address: u64) -> u64 {
+fn offset_in_table(level: u8, address: u64) -> u64 {
     let lowered = match level {
         5 => address >> 45,
         4 => address >> 36,
@@ -42,6 +43,7 @@ fn is_reserved(level: u8, settings: &Settings, value: u64) -> bool {
     large || value & 0xf_ff00_0000_0000 != 0 || (!settings.nxe && value >> 63 != 0)
 }
 
+/// The walk, level after level from the top.
 fn slow_walk(bytes: &[u8], settings: &Settings, root: u64, address: u64) -> Walk {
     let mut table = root;
     let mut bits = Bits {
@@ -53,7 +55,7 @@ fn slow_walk(bytes: &[u8], settings: &Settings, root: u64, address: u64) -> Walk
         if level == 5 && !settings.la57 {
             continue;
         }
-        let Some(value) = entry(bytes, table | place_in_table(level, address)) else {
+        let Some(value) = entry(bytes, table | offset_in_table(level, address)) else {
             return Walk::Unknown(level);
         };
         if value & 1 == 0 {
@@ -89,8 +91,8 @@ fn next(random: u64) -> u64 {
         .wrapping_add(1_442_695_040_888_963_407)
 }
 
-/// An entry of chance: mostly present, seldom of a large page, and often of a table in the first four pages.
-fn chance(random: u64) -> u64 {
+/// A random entry: mostly present, seldom of a large page, and often of a table in the first four pages.
+fn random_entry(random: u64) -> u64 {
     const FRAMES: [u64; 16] = [
         0,
         0x1000,
@@ -131,15 +133,13 @@ fn walks_by_the_text(rt: HostRuntime) -> Result<(), Fail> {
         let mut bytes = vec![in rt.alloc(); 0; SIZE]?;
         for entry in bytes.chunks_exact_mut(8) {
             random = next(random);
-            for (byte, new) in entry.iter_mut().zip(chance(random).to_le_bytes()) {
-                *byte = new;
-            }
+            put(entry, (0, 8, random_entry(random)));
         }
         let settings = settings(memory % 2 == 0, memory % 3 == 0, memory % 5 != 0);
         for _ in 0u32..16 {
             random = next(random);
             let address = random >> 3;
-            let (end, _) = counted(&rt, rt.alloc(), &bytes, &settings, 0x1000, address)?;
+            let (end, _) = walk_and_steps(&rt, rt.alloc(), &bytes, &settings, 0x1000, address)?;
             let want = slow_walk(&bytes, &settings, 0x1000, address);
             assert_eq!(rt; end, want, "{address:#x} in memory {memory}");
             if let Walk::Mapped(page) = end {

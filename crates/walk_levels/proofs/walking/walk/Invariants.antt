@@ -6,7 +6,7 @@ use Rattle.walk_levels.proofs.walking.walk.Given as goal
 -- what is left of the walk is the whole walk
 abbrev pub invariant-loop-value : goal.invariant-loop-value
 invariant-loop-value g l = record {
-  walked : walk_from (memory_of l.view) l.settings l.address l.level l.table l.bits ≡ walk (memory_of l.view) l.settings l.root l.address;
+  walked : walk_from (memory_of l.view) l.settings l.level l.address l.table l.bits ≡ walk (memory_of l.view) l.settings l.root l.address;
   least : 1 ≤ l.level;
   most : l.level ≤ top_level l.settings;
   steps : l.steps + l.level ≡ l.fn.steps + top_level l.settings;
