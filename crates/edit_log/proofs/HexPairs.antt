@@ -1,12 +1,12 @@
--- Pairs of hexadecimal digits, from the front.
+-- Pairs of hexadecimal digits, from the first on.
 use Rattle.std.proofs.Common.{◌≡◌, ◌≢◌, ◌%◌, ℕ, zero, suc, ◌+◌, ◌*◌, ◌/◌, ◌<◌, List, [], ◌∷◌, ◌++◌, length, refl, arith, sym, ap, ◌∙◌, append_assoc, take, drop, get_or}
 use Rattle.std.proofs.lemmas.Grind.{common_steps}
 use Rattle.std.proofs.lemmas.List.Elements.{recursion_from_All, All-from_recursion, All-more}
 use Rattle.std.specs.Prelude.{Option, Some, None, IsSome, option_and_then, option_map, is_some, true, false, All}
 use Rattle.std.specs.List.{AllByRecursion}
-use Rattle.history_model.specs.LogLine.{bytes_of}
-use Rattle.history_model.specs.Numbers.{hex_digit}
-use Rattle.edit_log.specs.HexPairs.{byte_of}
+use Rattle.edit_log.specs.LogLine.{bytes_of}
+use Rattle.edit_log.specs.Numbers.{hex_digit}
+use Rattle.edit_log.specs.Digits.{byte_of}
 
 drop_at : (word : List ℕ) (i : ℕ) → i < length word → drop i word ≡ get_or word i 0 ∷ drop (i + 1) word
 drop_at word i within = grind (arith, common_steps)

@@ -1,5 +1,5 @@
 pub mod Digits
-pub mod Cutting
+pub mod Splitting
 pub mod SpelledEvents
 pub mod HexPairs
 pub mod Passing

@@ -5,10 +5,10 @@ use Rattle.std.proofs.lemmas.Bool.Decides.{nat_tests}
 use Rattle.std.proofs.lemmas.List.Elements.{recursion_from_All, All-push}
 use Rattle.std.specs.List.{AllByRecursion}
 use Rattle.std.specs.Prelude.{All, Ok, None, Bool, true, false, ◌⊎◌, if◌then◌else◌}
-use Rattle.history_model.specs.Log.{lines_of, whole_lines, rest_of, has_end}
-use Rattle.history_model.specs.LogLine.{event_of}
-use Rattle.edit_log.specs.Reading.{Cuts}
-use Rattle.edit_log.specs.Scanning.{Heads, Tails, Passed, HasLine, HasNoLine, Skips, FindsEvent}
+use Rattle.edit_log.specs.Log.{lines_of, whole_lines, rest_of, has_end}
+use Rattle.edit_log.specs.LogLine.{event_of}
+use Rattle.edit_log.specs.Reading.{Splits}
+use Rattle.edit_log.specs.Scanning.{Heads, Tails, LinesBefore, HasLine, HasNoLine, Skips, FindsEvent}
 
 -- bytes in which no line ends
 pub no_end : (bytes : List ℕ) → AllByRecursion (λ b. b ≢ 10) bytes → has_end bytes ≡ false
@@ -61,68 +61,68 @@ heads-line line none = record {
 heads-nothing : Heads [] []
 heads-nothing = record { all = λ more. refl; whole = λ more. refl; rest = λ more. refl }
 
-heads-more : (a b : List ℕ) (first behind : List (List ℕ)) → Heads a first → Heads b behind → Heads (a ++ b) (first ++ behind)
-heads-more a b first behind one two = record {
-  all = λ more. ap lines_of (append_assoc a b more) ∙ one.all (b ++ more) ∙ ap (λ x. first ++ x) (two.all more) ∙ sym (append_assoc first behind (lines_of more));
-  whole = λ more. ap whole_lines (append_assoc a b more) ∙ one.whole (b ++ more) ∙ ap (λ x. first ++ x) (two.whole more) ∙ sym (append_assoc first behind (whole_lines more));
+heads-more : (a b : List ℕ) (first later : List (List ℕ)) → Heads a first → Heads b later → Heads (a ++ b) (first ++ later)
+heads-more a b first later one two = record {
+  all = λ more. ap lines_of (append_assoc a b more) ∙ one.all (b ++ more) ∙ ap (λ x. first ++ x) (two.all more) ∙ sym (append_assoc first later (lines_of more));
+  whole = λ more. ap whole_lines (append_assoc a b more) ∙ one.whole (b ++ more) ∙ ap (λ x. first ++ x) (two.whole more) ∙ sym (append_assoc first later (whole_lines more));
   rest = λ more. ap rest_of (append_assoc a b more) ∙ one.rest (b ++ more) ∙ two.rest more;
 }
 
-pub passed-nothing : (finished : Bool) (bytes : List ℕ) → Passed finished bytes bytes []
-passed-nothing finished bytes = record { front = []; bytes = refl; ends = inl heads-nothing }
+pub passed-nothing : (finished : Bool) (bytes : List ℕ) → LinesBefore finished bytes bytes []
+passed-nothing finished bytes = record { prefix = []; bytes = refl; ends = inl heads-nothing }
 
-passed-ends : (finished : Bool) (b c a d : List ℕ) (first behind : List (List ℕ)) → 0 < length b → b ≡ d ++ c
-    → Heads a first ⊎ Tails finished a b first → Heads d behind ⊎ Tails finished d c behind
-    → Heads (a ++ d) (first ++ behind) ⊎ Tails finished (a ++ d) c (first ++ behind)
-passed-ends finished b c a d first behind some is (inr tails) next = absurd (omega (arith, ap length tails.none))
-passed-ends finished b c a d first behind some is (inl heads) (inl more) = inl (heads-more a d first behind heads more)
-passed-ends finished b c a d first behind some is (inl heads) (inr tails) = inr (record {
+passed-ends : (finished : Bool) (b c a d : List ℕ) (first later : List (List ℕ)) → 0 < length b → b ≡ d ++ c
+    → Heads a first ⊎ Tails finished a b first → Heads d later ⊎ Tails finished d c later
+    → Heads (a ++ d) (first ++ later) ⊎ Tails finished (a ++ d) c (first ++ later)
+passed-ends finished b c a d first later some is (inr tails) next = absurd (omega (arith, ap length tails.none))
+passed-ends finished b c a d first later some is (inl heads) (inl more) = inl (heads-more a d first later heads more)
+passed-ends finished b c a d first later some is (inl heads) (inr tails) = inr (record {
   last = tails.last;
   none = tails.none;
   all = heads.all d ∙ ap (λ x. first ++ x) tails.all;
 })
 
-pub passed-more : (finished : Bool) (a b c : List ℕ) (first behind : List (List ℕ)) → 0 < length b
-    → Passed finished a b first → Passed finished b c behind → Passed finished a c (first ++ behind)
-passed-more finished a b c first behind some one two = record {
-  front = one.front ++ two.front;
-  bytes = one.bytes ∙ ap (λ x. one.front ++ x) two.bytes ∙ sym (append_assoc one.front two.front c);
-  ends = passed-ends finished b c one.front two.front first behind some two.bytes one.ends two.ends;
+pub passed-more : (finished : Bool) (a b c : List ℕ) (first later : List (List ℕ)) → 0 < length b
+    → LinesBefore finished a b first → LinesBefore finished b c later → LinesBefore finished a c (first ++ later)
+passed-more finished a b c first later some one two = record {
+  prefix = one.prefix ++ two.prefix;
+  bytes = one.bytes ∙ ap (λ x. one.prefix ++ x) two.bytes ∙ sym (append_assoc one.prefix two.prefix c);
+  ends = passed-ends finished b c one.prefix two.prefix first later some two.bytes one.ends two.ends;
 }
 
 abbrev pub lefts : Bool → List ℕ → List (List ℕ)
 lefts finished bytes = if finished then lines_of bytes else whole_lines bytes
 
-left-ends : (finished : Bool) (front b : List ℕ) (lines : List (List ℕ)) → Heads front lines ⊎ Tails finished front b lines → lefts finished (front ++ b) ≡ lines ++ lefts finished b
-left-ends true front b lines (inl heads) = heads.all b
-left-ends false front b lines (inl heads) = heads.whole b
-left-ends finished front b lines (inr tails) = rw (tails.last, tails.none, append-nil front, append-nil lines) tails.all
+left-ends : (finished : Bool) (prefix b : List ℕ) (lines : List (List ℕ)) → Heads prefix lines ⊎ Tails finished prefix b lines → lefts finished (prefix ++ b) ≡ lines ++ lefts finished b
+left-ends true prefix b lines (inl heads) = heads.all b
+left-ends false prefix b lines (inl heads) = heads.whole b
+left-ends finished prefix b lines (inr tails) = rw (tails.last, tails.none, append-nil prefix, append-nil lines) tails.all
 
 -- the lines left, before and after
-pub passed-left : (finished : Bool) (a b : List ℕ) (lines : List (List ℕ)) → Passed finished a b lines → lefts finished a ≡ lines ++ lefts finished b
-passed-left finished a b lines passed = rw passed.bytes (left-ends finished passed.front b lines passed.ends)
+pub passed-left : (finished : Bool) (a b : List ℕ) (lines : List (List ℕ)) → LinesBefore finished a b lines → lefts finished a ≡ lines ++ lefts finished b
+passed-left finished a b lines passed = rw passed.bytes (left-ends finished passed.prefix b lines passed.ends)
 
-rest-ends : (front b : List ℕ) (lines : List (List ℕ)) → Heads front lines ⊎ Tails false front b lines → rest_of (front ++ b) ≡ rest_of b
-rest-ends front b lines (inl heads) = heads.rest b
-rest-ends front b lines (inr tails) = absurd cc
+rest-ends : (prefix b : List ℕ) (lines : List (List ℕ)) → Heads prefix lines ⊎ Tails false prefix b lines → rest_of (prefix ++ b) ≡ rest_of b
+rest-ends prefix b lines (inl heads) = heads.rest b
+rest-ends prefix b lines (inr tails) = absurd cc
 
-pub passed-rest : (a b : List ℕ) (lines : List (List ℕ)) → Passed false a b lines → rest_of a ≡ rest_of b
-passed-rest a b lines passed = rw passed.bytes (rest-ends passed.front b lines passed.ends)
+pub passed-rest : (a b : List ℕ) (lines : List (List ℕ)) → LinesBefore false a b lines → rest_of a ≡ rest_of b
+passed-rest a b lines passed = rw passed.bytes (rest-ends passed.prefix b lines passed.ends)
 
-cut-ends : (finished : Bool) (front b : List ℕ) (lines : List (List ℕ)) → Heads front lines ⊎ Tails finished front b lines → lines_of front ≡ lines
-cut-ends finished front b lines (inl heads) = rw (append-nil front, append-nil lines) at (heads.all [])
-cut-ends finished front b lines (inr tails) = tails.all
+split-ends : (finished : Bool) (prefix b : List ℕ) (lines : List (List ℕ)) → Heads prefix lines ⊎ Tails finished prefix b lines → lines_of prefix ≡ lines
+split-ends finished prefix b lines (inl heads) = rw (append-nil prefix, append-nil lines) at (heads.all [])
+split-ends finished prefix b lines (inr tails) = tails.all
 
-whole-ends : (finished : Bool) (front b : List ℕ) (lines : List (List ℕ)) → Heads front lines ⊎ Tails finished front b lines → (whole_lines front ≡ lines) ⊎ ((finished ≡ true) × (b ≡ []))
-whole-ends finished front b lines (inl heads) = inl (rw (append-nil front, append-nil lines) at (heads.whole []))
-whole-ends finished front b lines (inr tails) = inr (tails.last, tails.none)
+whole-ends : (finished : Bool) (prefix b : List ℕ) (lines : List (List ℕ)) → Heads prefix lines ⊎ Tails finished prefix b lines → (whole_lines prefix ≡ lines) ⊎ ((finished ≡ true) × (b ≡ []))
+whole-ends finished prefix b lines (inl heads) = inl (rw (append-nil prefix, append-nil lines) at (heads.whole []))
+whole-ends finished prefix b lines (inr tails) = inr (tails.last, tails.none)
 
-pub passed-cuts : (finished : Bool) (a b : List ℕ) (lines : List (List ℕ)) → Passed finished a b lines → Cuts finished a b lines
-passed-cuts finished a b lines passed = record {
-  front = passed.front;
+pub before-splits : (finished : Bool) (a b : List ℕ) (lines : List (List ℕ)) → LinesBefore finished a b lines → Splits finished a b lines
+before-splits finished a b lines passed = record {
+  prefix = passed.prefix;
   bytes = passed.bytes;
-  cut = cut-ends finished passed.front b lines passed.ends;
-  ends = whole-ends finished passed.front b lines passed.ends;
+  split = split-ends finished passed.prefix b lines passed.ends;
+  ends = whole-ends finished passed.prefix b lines passed.ends;
 }
 
 -- the first line of bytes, which LF ends
@@ -132,7 +132,7 @@ has-line finished bytes end within is before = record {
   some = omega arith;
   within = omega arith;
   passed = record {
-    front = take end bytes ++ 10 ∷ [];
+    prefix = take end bytes ++ 10 ∷ [];
     bytes = grind (arith, common_steps);
     ends = inl (heads-line (take end bytes) (recursion_from_All _ _ before));
   };
@@ -146,7 +146,7 @@ has-last finished (b ∷ bytes) last some none = record {
   some = some;
   within = omega arith;
   passed = record {
-    front = b ∷ bytes;
+    prefix = b ∷ bytes;
     bytes = grind (arith, common_steps);
     ends = inr (record {
       last = last;
@@ -159,13 +159,13 @@ has-last finished (b ∷ bytes) last some none = record {
 pub has-no_line : (finished : Bool) (bytes : List ℕ) → (finished ≡ true → bytes ≡ []) → All (λ b. b ≢ 10) bytes → HasNoLine finished bytes
 has-no_line finished bytes all none = record { no_end = no_end bytes (recursion_from_All _ _ none); all = all }
 
--- behind a place all that is left
-pub behind : (xs : List ℕ) (n : ℕ) → take (length xs - n) (drop n xs) ≡ drop n xs
-behind xs n = grind (arith, common_steps)
+-- after an index all that is left
+pub rest_after : (xs : List ℕ) (n : ℕ) → take (length xs - n) (drop n xs) ≡ drop n xs
+rest_after xs n = grind (arith, common_steps)
 
 -- one line more
 pub passed-line : (finished : Bool) (bytes : List ℕ) (size count more : ℕ) (line : List ℕ) (first : Skips finished bytes size count) → HasLine finished (drop size bytes) more line
-    → Passed finished bytes (drop (size + more) bytes) (first.skipped ++ line ∷ [])
+    → LinesBefore finished bytes (drop (size + more) bytes) (first.skipped ++ line ∷ [])
 passed-line finished bytes size count more line first has =
     let on : drop (size + more) bytes ≡ drop more (drop size bytes) = grind (arith, common_steps) in
     rw on (passed-more finished bytes (drop size bytes) (drop more (drop size bytes)) first.skipped (line ∷ []) (omega (arith, has.some, has.within)) first.passed has.passed)

@@ -1,8 +1,8 @@
 -- Words of certain forms, and the events that they spell.
 use Rattle.std.proofs.Common.{◌≡◌, ℕ, List, [], ◌∷◌, refl}
 use Rattle.std.specs.Prelude.{Bool, true, false, Option, Some, None, IsSome, codes, if◌then◌else◌}
-use Rattle.history_model.specs.LogLine.{event_of_words, is_word, machine_line, cpu_line, write_line, set_line, invlpg_line, invpcid_line, ask_line, list_line, point_line, payload_of}
-use Rattle.history_model.specs.Numbers.{number_of}
+use Rattle.edit_log.specs.LogLine.{event_of_words, is_word, machine_line, cpu_line, write_line, set_line, invlpg_line, invpcid_line, ask_line, list_line, point_line, payload_of}
+use Rattle.edit_log.specs.Numbers.{number_of}
 use Rattle.edit_log.specs.Reading.{Writes}
 
 -- a word by itself spells none

@@ -2,16 +2,15 @@
 use Rattle.std.proofs.Common.{◌≡◌, ℕ, ◌+◌, ◌<◌, List, [], ◌∷◌, ◌++◌, length, drop, refl, arith, sym, ap, ◌∙◌, append_assoc, append-nil, inl, inr}
 use Rattle.std.proofs.lemmas.Grind.{common_steps}
 use Rattle.std.specs.Prelude.{Bool, true, false, Some, None, ◌⊎◌}
-use Rattle.history_model.specs.Log.{lines_of, rest_of}
+use Rattle.edit_log.specs.Log.{lines_of, rest_of}
 use Rattle.history_model.specs.declared.events.Event.{Event}
-use Rattle.history_model.specs.declared.faults.Cause.{Cause}
-use Rattle.edit_log.specs.declared.faults.LineFault.{LineFault}
-use Rattle.edit_log.specs.Reading.{Reading, NextLine, Gives, Passes, IsFaulty, IsEndless, Refuses, WantsMemory, counted, left_of}
+use Rattle.edit_log.specs.declared.line_forms.LineFault.{LineFault}
+use Rattle.edit_log.specs.Reading.{Reading, NextLine, Gives, Passes, IsFaulty, IsEndless, Refuses, RunsOut, count_after, left_of}
 use Rattle.edit_log.specs.Scanning.{Skips, HasLine, HasNoLine, FindsEvent, FindsNothing, FindsFault, FindsEndless, FindsWrite, IsFound}
-use Rattle.edit_log.specs.declared.faults.LineFault.TheVariants.{Memory}
-use Rattle.edit_log.specs.declared.scanning.Found.{Found}
-use Rattle.edit_log.specs.declared.scanning.Found.TheVariants.{Fault}
-use Rattle.edit_log.proofs.Passing.{lefts, passed-left, passed-rest, passed-cuts, passed-line, whole-no_end, rest-no_end}
+use Rattle.edit_log.specs.declared.line_forms.LineFault.TheVariants.{Memory}
+use Rattle.edit_log.specs.declared.lines.Found.{Found}
+use Rattle.edit_log.specs.declared.lines.Found.TheVariants.{Fault}
+use Rattle.edit_log.proofs.Passing.{lefts, passed-left, passed-rest, before-splits, passed-line, whole-no_end, rest-no_end}
 
 one-more : (count : ℕ) (skipped : List (List ℕ)) (line : List ℕ) → count ≡ length skipped → count + 1 ≡ length (skipped ++ line ∷ [])
 one-more count skipped line is = grind (arith, common_steps, is)
@@ -50,7 +49,7 @@ next-line old size count more line skips has = record {
 
 pub gives-event : (old new : Reading) (event : Event) (size count more : ℕ) → Skips old.finished old.rest size count
     → FindsEvent old.finished (drop size old.rest) (Some event) more → old.refused ≡ None
-    → new ≡ record old { rest = drop (size + more) old.rest; taken = counted old.taken (count + 1) } → Gives old new event
+    → new ≡ record old { rest = drop (size + more) old.rest; taken = count_after old.taken (count + 1) } → Gives old new event
 gives-event old new event size count more skips finds unrefused is = rw is (record {
   skipped = skips.skipped;
   line = finds.line;
@@ -58,8 +57,8 @@ gives-event old new event size count more skips finds unrefused is = rw is (reco
   means = finds.means;
   left = left-line old size count more finds.line skips finds.has;
   takes = record {
-    cuts = passed-cuts old.finished old.rest (drop (size + more) old.rest) (skips.skipped ++ finds.line ∷ []) (passed-line old.finished old.rest size count more finds.line skips finds.has);
-    count = ap (counted old.taken) (one-more count skips.skipped finds.line skips.counts);
+    splits = before-splits old.finished old.rest (drop (size + more) old.rest) (skips.skipped ++ finds.line ∷ []) (passed-line old.finished old.rest size count more finds.line skips finds.has);
+    count = ap (count_after old.taken) (one-more count skips.skipped finds.line skips.counts);
     finished = refl;
     unrefused = unrefused;
     going = unrefused;
@@ -68,14 +67,14 @@ gives-event old new event size count more skips finds unrefused is = rw is (reco
 
 pub passes-all : (old new : Reading) (size count : ℕ) → Skips old.finished old.rest size count
     → FindsNothing old.finished (drop size old.rest) → old.refused ≡ None
-    → new ≡ record old { rest = drop size old.rest; taken = counted old.taken count } → Passes old new
+    → new ≡ record old { rest = drop size old.rest; taken = count_after old.taken count } → Passes old new
 passes-all old new size count skips finds unrefused is = rw is (record {
   skipped = skips.skipped;
   skips = skips.skips;
   left = left-skipped old size count skips finds.has;
   takes = record {
-    cuts = passed-cuts old.finished old.rest (drop size old.rest) skips.skipped skips.passed;
-    count = ap (counted old.taken) skips.counts;
+    splits = before-splits old.finished old.rest (drop size old.rest) skips.skipped skips.passed;
+    count = ap (count_after old.taken) skips.counts;
     finished = refl;
     unrefused = unrefused;
     going = unrefused;
@@ -87,15 +86,15 @@ passes-all old new size count skips finds unrefused is = rw is (record {
   begun = λ going_on. sym (rest-skipped old size count skips finds.has going_on);
 })
 
-why : (old : Reading) (cause : Cause) (size count : ℕ) (skips : Skips old.finished old.rest size count)
-    → FindsFault old.finished (drop size old.rest) cause ⊎ FindsEndless old.finished (drop size old.rest) cause
-    → IsFaulty old skips.skipped cause ⊎ IsEndless old skips.skipped cause
-why old cause size count skips (inl finds) = inl (record {
+why : (old : Reading) (fault : LineFault) (size count : ℕ) (skips : Skips old.finished old.rest size count)
+    → FindsFault old.finished (drop size old.rest) fault ⊎ FindsEndless old.finished (drop size old.rest) fault
+    → IsFaulty old skips.skipped fault ⊎ IsEndless old skips.skipped fault
+why old fault size count skips (inl finds) = inl (record {
   line = finds.line;
   next = next-line old size count finds.size finds.line skips finds.has;
   means = finds.means;
 })
-why old cause size count skips (inr finds) =
+why old fault size count skips (inr finds) =
     let going_on = not_finished old.finished (drop size old.rest) finds.has (omega (arith, finds.long)) in
     inr (record {
       unfinished = going_on;
@@ -105,14 +104,14 @@ why old cause size count skips (inr finds) =
       is = finds.is;
     })
 
-pub refuses-line : (old new : Reading) (cause : Cause) (fault : LineFault) (size count : ℕ) → Skips old.finished old.rest size count
-    → FindsFault old.finished (drop size old.rest) cause ⊎ FindsEndless old.finished (drop size old.rest) cause
-    → new ≡ record old { rest = drop size old.rest; taken = counted old.taken (count + 1); refused = Some fault } → Refuses old new cause fault
-refuses-line old new cause fault size count skips finds is = rw is (record {
+pub refuses-line : (old new : Reading) (fault : LineFault) (size count : ℕ) → Skips old.finished old.rest size count
+    → FindsFault old.finished (drop size old.rest) fault ⊎ FindsEndless old.finished (drop size old.rest) fault
+    → new ≡ record old { rest = drop size old.rest; taken = count_after old.taken (count + 1); refused = Some fault } → Refuses old new fault
+refuses-line old new fault size count skips finds is = rw is (record {
   skipped = skips.skipped;
-  why = why old cause size count skips finds;
-  cuts = passed-cuts old.finished old.rest (drop size old.rest) skips.skipped skips.passed;
-  count = ap (λ n. counted old.taken (n + 1)) skips.counts;
+  why = why old fault size count skips finds;
+  splits = before-splits old.finished old.rest (drop size old.rest) skips.skipped skips.passed;
+  count = ap (λ n. count_after old.taken (n + 1)) skips.counts;
   finished = refl;
   refused = refl;
 })
@@ -123,9 +122,9 @@ refused_by fault reading = record reading { refused = Some fault }
 pub write-found : (finished : Bool) (rest : List ℕ) (found : Found) (fault : LineFault) → found ≡ Fault fault → fault ≡ Memory → IsFound finished rest found → FindsWrite finished rest
 write-found finished rest found fault is memory finds = rw memory at (rw is at finds)
 
-pub wants-memory : (old : Reading) (size count : ℕ) → Skips old.finished old.rest size count
-    → FindsWrite old.finished (drop size old.rest) → WantsMemory old old
-wants-memory old size count skips finds = record {
+pub runs-out : (old : Reading) (size count : ℕ) → Skips old.finished old.rest size count
+    → FindsWrite old.finished (drop size old.rest) → RunsOut old old
+runs-out old size count skips finds = record {
   skipped = skips.skipped;
   line = finds.line;
   next = next-line old size count finds.size finds.line skips finds.has;

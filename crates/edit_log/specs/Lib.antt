@@ -1,5 +1,8 @@
-pub mod Reading
+pub mod Log
+pub mod LogLine
+pub mod Numbers
 pub mod Words
-pub mod Radixes
+pub mod Digits
+pub mod Reading
 pub mod Scanning
-pub mod HexPairs
+pub mod WorkedLines

@@ -1,40 +1,39 @@
--- What is found at the front of bytes, when lines that spell no event are passed.
+-- What a search for the next event skips and finds.
 use Rattle.std.specs.Prelude.{◌≡◌, ℕ, ◌<◌, ◌≤◌, List, [], ◌∷◌, ◌++◌, ◌⊎◌, length, drop, Bool, true, false, Some, None, Ok, Err, Option}
-use Rattle.history_model.specs.Log.{lines_of, whole_lines, rest_of, has_end}
-use Rattle.history_model.specs.LogLine.{event_of, line_limit}
+use Rattle.edit_log.specs.Log.{lines_of, whole_lines, rest_of, has_end}
+use Rattle.edit_log.specs.LogLine.{event_of, line_limit}
 use Rattle.history_model.specs.declared.events.Event.{Event}
-use Rattle.history_model.specs.declared.faults.Cause.{Cause}
-use Rattle.history_model.specs.declared.faults.Cause.TheVariants.{TooLong, Syntax}
+use Rattle.edit_log.specs.declared.line_forms.LineFault.{LineFault}
 use Rattle.edit_log.specs.Reading.{AllSkipped, SpellsWrite}
-use Rattle.edit_log.specs.declared.faults.LineFault.TheVariants.{TooLong as LongLine, Syntax as NoForm, Memory}
-use Rattle.edit_log.specs.declared.scanning.Found.{Found as FoundType}
-use Rattle.edit_log.specs.declared.scanning.Found.TheVariants.{Event as EventOf, Nothing, Fault}
-use Rattle.edit_log.specs.declared.scanning.Front.{Front}
-use Rattle.edit_log.specs.declared.scanning.Front.TheVariants.{Skipped, Found}
+use Rattle.edit_log.specs.declared.line_forms.LineFault.TheVariants.{TooLong, Memory}
+use Rattle.edit_log.specs.declared.lines.Found.{Found as FoundType}
+use Rattle.edit_log.specs.declared.lines.Found.TheVariants.{Event as EventOf, Nothing, Fault}
+use Rattle.edit_log.specs.declared.lines.FirstLine.{FirstLine}
+use Rattle.edit_log.specs.declared.lines.FirstLine.TheVariants.{Skipped, Found}
 
 -- bytes are lines with their LFs, whatever follows
-pub record Heads (front : List ℕ) (lines : List (List ℕ)) : Type 0 where
-  pub all : (more : List ℕ) → lines_of (front ++ more) ≡ lines ++ lines_of more
-  pub whole : (more : List ℕ) → whole_lines (front ++ more) ≡ lines ++ whole_lines more
-  pub rest : (more : List ℕ) → rest_of (front ++ more) ≡ rest_of more
+pub record Heads (prefix : List ℕ) (lines : List (List ℕ)) : Type 0 where
+  pub all : (more : List ℕ) → lines_of (prefix ++ more) ≡ lines ++ lines_of more
+  pub whole : (more : List ℕ) → whole_lines (prefix ++ more) ≡ lines ++ whole_lines more
+  pub rest : (more : List ℕ) → rest_of (prefix ++ more) ≡ rest_of more
 
 -- bytes are lines, the last without LF, and nothing follows
-pub record Tails (finished : Bool) (front rest : List ℕ) (lines : List (List ℕ)) : Type 0 where
+pub record Tails (finished : Bool) (prefix rest : List ℕ) (lines : List (List ℕ)) : Type 0 where
   pub last : finished ≡ true
   pub none : rest ≡ []
-  pub all : lines_of front ≡ lines
+  pub all : lines_of prefix ≡ lines
 
 -- lines that have come to their end stand before the rest
-pub record Passed (finished : Bool) (old rest : List ℕ) (lines : List (List ℕ)) : Type 0 where
-  pub front : List ℕ
-  pub bytes : old ≡ front ++ rest
-  pub ends : Heads front lines ⊎ Tails finished front rest lines
+pub record LinesBefore (finished : Bool) (old rest : List ℕ) (lines : List (List ℕ)) : Type 0 where
+  pub prefix : List ℕ
+  pub bytes : old ≡ prefix ++ rest
+  pub ends : Heads prefix lines ⊎ Tails finished prefix rest lines
 
 -- a line that has come to its end, of so many bytes with its LF
 pub record HasLine (finished : Bool) (bytes : List ℕ) (size : ℕ) (line : List ℕ) : Type 0 where
   pub some : 0 < size
   pub within : size ≤ length bytes
-  pub passed : Passed finished bytes (drop size bytes) (line ∷ [])
+  pub passed : LinesBefore finished bytes (drop size bytes) (line ∷ [])
 
 -- no line has come to its end
 pub record HasNoLine (finished : Bool) (bytes : List ℕ) : Type 0 where
@@ -46,11 +45,11 @@ pub record Skips (finished : Bool) (bytes : List ℕ) (size count : ℕ) : Type 
   pub within : size ≤ length bytes
   pub skipped : List (List ℕ)
   pub skips : AllSkipped skipped
-  pub passed : Passed finished bytes (drop size bytes) skipped
+  pub passed : LinesBefore finished bytes (drop size bytes) skipped
   pub counts : count ≡ length skipped
   pub few : count ≤ size
 
--- what a line in front spells: an event or none
+-- what the first line spells: an event or none
 pub record FindsEvent (finished : Bool) (bytes : List ℕ) (event : Option Event) (size : ℕ) : Type 0 where
   pub line : List ℕ
   pub has : HasLine finished bytes size line
@@ -61,20 +60,20 @@ pub record FindsNothing (finished : Bool) (bytes : List ℕ) : Type 0 where
   pub has : HasNoLine finished bytes
   pub short : length bytes ≤ line_limit
 
--- a line in front has a fault
-pub record FindsFault (finished : Bool) (bytes : List ℕ) (cause : Cause) : Type 0 where
+-- the first line has a fault
+pub record FindsFault (finished : Bool) (bytes : List ℕ) (fault : LineFault) : Type 0 where
   pub line : List ℕ
   pub size : ℕ
   pub has : HasLine finished bytes size line
-  pub means : event_of line ≡ Err cause
+  pub means : event_of line ≡ Err fault
 
 -- too many bytes of a line whose end has not come
-pub record FindsEndless (finished : Bool) (bytes : List ℕ) (cause : Cause) : Type 0 where
+pub record FindsEndless (finished : Bool) (bytes : List ℕ) (fault : LineFault) : Type 0 where
   pub has : HasNoLine finished bytes
   pub long : line_limit < length bytes
-  pub is : cause ≡ TooLong
+  pub is : fault ≡ TooLong
 
--- a line in front spells a write
+-- the first line spells a write
 pub record FindsWrite (finished : Bool) (bytes : List ℕ) : Type 0 where
   pub line : List ℕ
   pub size : ℕ
@@ -85,11 +84,10 @@ pub record FindsWrite (finished : Bool) (bytes : List ℕ) : Type 0 where
 abbrev pub IsFound : Bool → List ℕ → FoundType → Type 0
 IsFound finished bytes (EventOf event size) = FindsEvent finished bytes (Some event) size
 IsFound finished bytes Nothing = FindsNothing finished bytes
-IsFound finished bytes (Fault LongLine) = FindsFault finished bytes TooLong ⊎ FindsEndless finished bytes TooLong
-IsFound finished bytes (Fault NoForm) = FindsFault finished bytes Syntax ⊎ FindsEndless finished bytes Syntax
 IsFound finished bytes (Fault Memory) = FindsWrite finished bytes
+IsFound finished bytes (Fault fault) = FindsFault finished bytes fault ⊎ FindsEndless finished bytes fault
 
--- what stands in front of bytes
-abbrev pub IsFront : Bool → List ℕ → Front → Type 0
-IsFront finished bytes (Skipped size) = FindsEvent finished bytes None size
-IsFront finished bytes (Found found) = IsFound finished bytes found
+-- what the first line gives
+abbrev pub IsFirstLine : Bool → List ℕ → FirstLine → Type 0
+IsFirstLine finished bytes (Skipped size) = FindsEvent finished bytes None size
+IsFirstLine finished bytes (Found found) = IsFound finished bytes found

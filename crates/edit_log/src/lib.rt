@@ -1,25 +1,20 @@
 //! From the bytes of a log to the events that its lines spell.
 //!
-//! [`Lines`] is fed the bytes of a log in one piece, and gives one event after another. What a line is and what it spells
-//! is defined in `history_model`.
+//! [`Lines`] is fed the bytes of a log in one piece, and gives one event after another. What a line is, what it spells
+//! and what a number is stands in `specs/`: `Log`, `LogLine` and `Numbers`.
 #![tactic(auto)]
 
-mod events;
-mod faults;
-mod forms;
+pub mod examples;
+mod line_forms;
 mod lines;
-mod names;
 mod numbers;
 mod payloads;
-mod scanning;
-mod values;
 mod words;
 
-pub use faults::LineFault;
-pub use history_model::events::Event;
+pub use line_forms::LineFault;
 pub use lines::Lines;
-pub use names::kind;
 pub use numbers::number;
+pub use words::kind;
 
 #[cfg(test)]
 mod tests;

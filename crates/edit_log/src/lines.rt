@@ -1,13 +1,12 @@
 //! A reader of a log's lines.
 
-ghost use Rattle.std.specs.Prelude.{◌≡◌, ◌≢◌, ◌≤◌, ◌<◌, ◌^◌, ◌++◌, [], length, drop, false, true, Some, None, Ok, Err, OnOk, OnErr};
+ghost use Rattle.std.specs.Prelude.{◌≡◌, ◌≢◌, ◌≤◌, ◌<◌, ◌^◌, ◌++◌, [], length, drop, false, true, Some, None, Ok, Err, IfSome, IfNone, OnOk, OnErr};
 ghost use Rattle.history_model.specs.declared.events.Event.{Event as EventSpec};
-ghost use Rattle.history_model.specs.declared.faults.Cause.TheVariants.{TooLong as long_line, Syntax as no_form};
-ghost use Rattle.edit_log.specs.Reading.{Reading, Gives, Passes, Refuses, WantsMemory, counted};
-ghost use Rattle.edit_log.specs.Scanning.{Skips, IsFound};
+ghost use Rattle.edit_log.specs.Reading.{Reading, Gives, Passes, Refuses, RunsOut, count_after};
+ghost use Rattle.edit_log.specs.Scanning.{HasLine, HasNoLine, IsFirstLine, IsFound, Skips};
 
-use crate::faults::LineFault;
-use crate::scanning::{Found, Scanned, scan};
+use crate::line_forms::{LINE_LIMIT, LineFault, event_of};
+use crate::words::first_index_of;
 use history_model::events::Event;
 use std::alloc::{AllocError, Global};
 use std::marker::Model;
@@ -18,7 +17,7 @@ use std::marker::Model;
 pub struct Lines {
     alloc: Global,
     bytes: Vec<u8>,
-    front: usize,
+    start: usize,
     count: u64,
     complete: bool,
     fault: Option<LineFault>,
@@ -27,13 +26,18 @@ pub struct Lines {
 impl Model for Lines {
     ghost use Rattle.std.specs.Prelude.{◌≤◌, ◌≢◌, length, drop, Some};
     ghost use Rattle.edit_log.specs.Reading.{Reading};
-    ghost use Rattle.edit_log.specs.declared.faults.LineFault.TheVariants.{Memory};
+    ghost use Rattle.edit_log.specs.declared.line_forms.LineFault.TheVariants.{Memory};
 
     ghost Value = { Reading };
 
-    ghost view = { λ l. record { rest = drop l.front l.bytes.items; taken = l.count; finished = l.complete; refused = l.fault } };
+    ghost view = { λ l. record {
+      rest = drop l.start l.bytes.items;
+      taken = l.count;
+      finished = l.complete;
+      refused = l.fault;
+    } };
 
-    ghost invariant = { λ l. (l.front ≤ length l.bytes.items) × (l.fault ≢ Some Memory) };
+    ghost invariant = { λ l. (l.start ≤ length l.bytes.items) × (l.fault ≢ Some Memory) };
 }
 
 impl Lines {
@@ -44,20 +48,21 @@ impl Lines {
         Lines {
             alloc,
             bytes: Vec::new(alloc),
-            front: 0,
+            start: 0,
             count: 0,
             complete: false,
             fault: None,
         }
     }
 
-    /// Adds bytes at the end. Where memory is wanted, nothing is added.
+    /// Adds bytes at the end. Out of memory, nothing is added.
     ///
     /// This version takes the bytes in one piece.
     pub fn feed(&mut self, piece: &[u8]) -> Result<(), AllocError>
         requires unfinished { self.old.finished ≡ false }
         requires only { (self.old.rest ≡ []) × (self.old.taken ≡ 0) }
-        ensures ok { OnOk result (self.new ≡ record self.old { rest = self.old.rest ++ piece.now }) }
+        ensures ok { OnOk result
+            (self.new ≡ record self.old { rest = self.old.rest ++ piece.now }) }
         ensures err { OnErr result (self.new ≡ self.old) }
     {
         self.bytes.extend_from_slice(piece)
@@ -75,17 +80,21 @@ impl Lines {
     /// `TooLong` and `Syntax` refuse a line, and each later call answers the same. `TooLong` comes as soon as more than
     /// 8,300 bytes of the line are there. `Memory` comes for a `write` line alone, and changes nothing.
     pub fn next(&mut self) -> Result<Option<Event>, LineFault>
-        ensures refused { (fault : LineFault) → self.old.refused ≡ Some fault → (result ≡ Err fault) × (self.new ≡ self.old) }
-        ensures event { (event : EventSpec) → result ≡ Ok (Some event) → Gives self.old self.new event }
+        ensures refused { (fault : LineFault) → self.old.refused ≡ Some fault
+            → (result ≡ Err fault) × (self.new ≡ self.old) }
+        ensures event { (event : EventSpec) → result ≡ Ok (Some event)
+            → Gives self.old self.new event }
         ensures none { result ≡ Ok None → Passes self.old self.new }
-        ensures too_long { result ≡ Err LineFault.TooLong → self.old.refused ≡ None → Refuses self.old self.new long_line LineFault.TooLong }
-        ensures syntax { result ≡ Err LineFault.Syntax → self.old.refused ≡ None → Refuses self.old self.new no_form LineFault.Syntax }
-        ensures memory { result ≡ Err LineFault.Memory → WantsMemory self.old self.new }
+        ensures too_long { result ≡ Err LineFault.TooLong → self.old.refused ≡ None
+            → Refuses self.old self.new LineFault.TooLong }
+        ensures syntax { result ≡ Err LineFault.Syntax → self.old.refused ≡ None
+            → Refuses self.old self.new LineFault.Syntax }
+        ensures memory { result ≡ Err LineFault.Memory → RunsOut self.old self.new }
     {
         if let Some(fault) = self.refusal() {
             return Err(fault);
         }
-        let Scanned { size, count, found } = self.scanned();
+        let Scanned { size, count, found } = self.scan_rest();
         match found {
             Found::Event(event, more) => {
                 self.pass(size + more, count + 1);
@@ -112,7 +121,7 @@ impl Lines {
         self.count
     }
 
-    // Why a line was refused.
+    /// Why a line was refused.
     fn refusal(&self) -> Option<LineFault>
         ensures value { result ≡ self.now.refused }
         ensures lasting { self.now.refused ≢ Some LineFault.Memory }
@@ -120,29 +129,108 @@ impl Lines {
         self.fault
     }
 
-    // What a search for the next event passes and comes to.
-    fn scanned(&self) -> Scanned
+    /// What a search for the next event skips and finds.
+    fn scan_rest(&self) -> Scanned
         ensures skips { Skips self.now.finished self.now.rest result.size result.count }
         ensures found { IsFound self.now.finished (drop result.size self.now.rest) result.found }
         ensures fits { length self.now.rest < 2 ^ 63 }
     {
-        scan(self.alloc, &self.bytes[self.front..], self.complete)
+        scan(self.alloc, &self.bytes[self.start..], self.complete)
     }
 
-    // Takes bytes from the front, and counts lines.
+    /// Takes the first bytes that are left, and counts lines.
     fn pass(&mut self, size: usize, count: usize)
         requires { size ≤ length self.old.rest }
-        ensures { self.new ≡ record self.old { rest = drop size self.old.rest; taken = counted self.old.taken count } }
+        ensures { self.new ≡ record self.old {
+          rest = drop size self.old.rest;
+          taken = count_after self.old.taken count;
+        } }
     {
-        self.front += size;
+        self.start += size;
         self.count = self.count.saturating_add(count as u64);
     }
 
-    // Refuses whatever may come.
+    /// Refuses whatever may come.
     fn refuse(&mut self, fault: LineFault)
         requires { fault ≢ LineFault.Memory }
         ensures { self.new ≡ record self.old { refused = Some fault } }
     {
         self.fault = Some(fault);
+    }
+}
+
+/// What ends a search for the next event.
+#[derive(Drop)]
+enum Found {
+    /// The event of a line of so many bytes, with its LF.
+    Event(Event, usize),
+    /// No line has come to its end.
+    Nothing,
+    /// The next line is refused, or out of memory for its event.
+    Fault(LineFault),
+}
+
+/// What the first line of bytes gives.
+#[derive(Drop)]
+enum FirstLine {
+    /// A line without an event, of so many bytes, with its LF.
+    Skipped(usize),
+    /// What ends the search.
+    Found(Found),
+}
+
+/// What a search skips and finds.
+#[derive(Drop)]
+struct Scanned {
+    /// The bytes of the lines without an event.
+    size: usize,
+    /// Their number.
+    count: usize,
+    /// What ends it.
+    found: Found,
+}
+
+/// Looks for the first line that isn't skipped.
+fn scan(alloc: Global, bytes: &[u8], finished: bool) -> Scanned
+    ensures skips { Skips finished bytes.now result.size result.count }
+    ensures found { IsFound finished (drop result.size bytes.now) result.found }
+{
+    let mut size = 0;
+    let mut count = 0;
+    loop {
+        match read_first(alloc, &bytes[size..], finished) {
+            FirstLine::Skipped(more) => {
+                size += more;
+                count += 1;
+            }
+            FirstLine::Found(found) => return Scanned { size, count, found },
+        }
+    }
+}
+
+/// What the first line gives.
+fn read_first(alloc: Global, bytes: &[u8], finished: bool) -> FirstLine
+    ensures { IsFirstLine finished bytes.now result }
+{
+    match split_line(bytes, finished) {
+        Some((line, size)) => match event_of(alloc, line) {
+            Ok(Some(event)) => FirstLine::Found(Found::Event(event, size)),
+            Ok(None) => FirstLine::Skipped(size),
+            Err(fault) => FirstLine::Found(Found::Fault(fault)),
+        },
+        None if bytes.len() > LINE_LIMIT => FirstLine::Found(Found::Fault(LineFault::TooLong)),
+        None => FirstLine::Found(Found::Nothing),
+    }
+}
+
+/// The first line, if it has come to its end, without its LF, and its size in bytes with it.
+fn split_line(bytes: &[u8], finished: bool) -> Option<(&[u8], usize)>
+    ensures some { IfSome result (λ found. HasLine finished bytes.now found.1 found.0.now) }
+    ensures none { IfNone result (HasNoLine finished bytes.now) }
+{
+    match first_index_of(bytes, b'\n') {
+        Some(end) => Some((&bytes[..end], end + 1)),
+        None if finished && !bytes.is_empty() => Some((bytes, bytes.len())),
+        None => None,
     }
 }

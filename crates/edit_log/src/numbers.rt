@@ -1,11 +1,11 @@
 //! Numbers as the log spells them.
 
 ghost use Rattle.std.specs.Prelude.{◌≡◌, ◌*◌, ◌+◌, ◌<◌, IfSome, option_and_then};
-ghost use Rattle.history_model.specs.Numbers.{number_of, value_behind, fitting, decimal_digit, hex_digit};
-ghost use Rattle.edit_log.specs.Radixes.{base_of, digit_in};
+ghost use Rattle.edit_log.specs.Numbers.{number_of, value_after, if_64_bits, decimal_digit, hex_digit};
+ghost use Rattle.edit_log.specs.Digits.{base_of, digit_in};
 
 /// The number that a word spells: `0x` and 1 to 16 hexadecimal digits, or 1 to 20 decimal digits, below 2 to the 64.
-#[tactic(auto, unfolding(history_model::specs::Numbers::number_of))]
+#[tactic(auto, unfolding(crate::specs::Numbers::number_of))]
 pub fn number(word: &[u8]) -> Option<u64>
     ensures { result ≡ number_of word.now }
 {
@@ -30,8 +30,9 @@ enum Radix {
 }
 
 impl Radix {
-    ghost use Rattle.edit_log.specs.Radixes.{base_of, digit_in};
+    ghost use Rattle.edit_log.specs.Digits.{base_of, digit_in};
 
+    /// How many digits there are.
     fn base(self) -> u64
         ensures value { result ≡ base_of self }
         ensures some { 0 < result }
@@ -42,7 +43,7 @@ impl Radix {
         }
     }
 
-    // The value of a character as a digit, of either case.
+    /// The value of a character as a digit, of either case.
     fn digit(self, character: u8) -> Option<u8>
         ensures { result ≡ digit_in self character }
     {
@@ -53,7 +54,7 @@ impl Radix {
     }
 }
 
-// The value of a character as a decimal digit.
+/// The value of a character as a decimal digit.
 fn decimal_digit(character: u8) -> Option<u8>
     ensures { result ≡ decimal_digit character }
 {
@@ -76,9 +77,10 @@ pub(crate) fn hex_digit(character: u8) -> Option<u8>
     }
 }
 
-// The value of digits, where it is below 2 to the 64.
+/// The value of digits, where it is below 2 to the 64.
 fn value_of(radix: Radix, digits: &[u8]) -> Option<u64>
-    ensures { result ≡ option_and_then fitting (value_behind (digit_in radix) (base_of radix) 0 digits.now) }
+    ensures { result
+        ≡ option_and_then if_64_bits (value_after (digit_in radix) (base_of radix) 0 digits.now) }
 {
     let base = radix.base();
     let mut value = 0u64;
@@ -94,12 +96,9 @@ fn value_of(radix: Radix, digits: &[u8]) -> Option<u64>
     Some(value)
 }
 
-// The value with one more digit, where it is below 2 to the 64.
+/// The value with one more digit, where it is below 2 to the 64.
 fn with_digit(value: u64, base: u64, digit: u8) -> Option<u64>
-    ensures { result ≡ fitting (value * base + digit) }
+    ensures { result ≡ if_64_bits (value * base + digit) }
 {
-    match value.checked_mul(base) {
-        Some(shifted) => shifted.checked_add(u64::from(digit)),
-        None => None,
-    }
+    value.checked_mul(base)?.checked_add(u64::from(digit))
 }

@@ -1,11 +1,11 @@
 //! The bytes of a write, as pairs of hexadecimal digits.
 
 ghost use Rattle.std.specs.Prelude.{◌≡◌, ◌*◌, length, is_some, option_map, IfOk, IfErr, IfSome, IsSome};
-ghost use Rattle.history_model.specs.LogLine.{payload_of, bytes_of};
-ghost use Rattle.edit_log.specs.HexPairs.{byte_of};
+ghost use Rattle.edit_log.specs.LogLine.{payload_of, bytes_of};
+ghost use Rattle.edit_log.specs.Digits.{byte_of};
 
 use crate::numbers::hex_digit;
-use paging_model::byte_lists::Payload;
+use paging_model::byte_strings::Payload;
 use std::alloc::{AllocError, Global};
 
 /// The bytes of a write that a word spells, 1 to 4,096. Memory is taken only where it spells some.
@@ -26,7 +26,7 @@ pub(crate) fn payload(alloc: Global, word: &[u8]) -> Result<Option<Payload>, All
     }
 }
 
-// Whether a word is pairs of hexadecimal digits.
+/// Whether a word is pairs of hexadecimal digits.
 fn spells_bytes(word: &[u8]) -> bool
     ensures { result ≡ is_some (bytes_of word.now) }
 {
@@ -41,10 +41,11 @@ fn spells_bytes(word: &[u8]) -> bool
     true
 }
 
-// The bytes that pairs of hexadecimal digits spell.
+/// The bytes that pairs of hexadecimal digits spell.
 fn bytes_in(alloc: Global, word: &[u8]) -> Result<Option<Vec<u8>>, AllocError>
     ensures value { IfOk result (λ bytes. option_map (λ b. b.items) bytes ≡ bytes_of word.now) }
-    ensures count { IfOk result (λ bytes. IfSome bytes (λ b. 2 * length b.items ≡ length word.now)) }
+    ensures count { IfOk result
+        (λ bytes. IfSome bytes (λ b. 2 * length b.items ≡ length word.now)) }
 {
     let count = word.len() / 2;
     if 2 * count != word.len() {
@@ -60,7 +61,7 @@ fn bytes_in(alloc: Global, word: &[u8]) -> Result<Option<Vec<u8>>, AllocError>
     Ok(Some(bytes))
 }
 
-// The byte of a pair of hexadecimal digits.
+/// The byte of a pair of hexadecimal digits.
 fn byte_of(high: u8, low: u8) -> Option<u8>
     ensures { result ≡ byte_of high low }
 {

@@ -6,6 +6,7 @@ use paging_model::access::Access;
 use paging_model::registers::RegChange;
 use std::test::Fail;
 
+/// A log of one line of most forms.
 const LOG: &[u8] = b"# a machine and a processor
 machine 0x2e 1
 cpu 0 0x80010033 0x1000 0x20 0xd01 0x40002 0 4294967295

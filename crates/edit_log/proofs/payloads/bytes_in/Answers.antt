@@ -1,7 +1,7 @@
 use Rattle.std.proofs.Common.{◌++◌, ◌+◌, ◌*◌, drop, get_or, sym, ap, ◌∙◌, arith}
 use Rattle.std.proofs.lemmas.Grind.{common_steps}
 use Rattle.std.specs.Prelude.{option_map}
-use Rattle.history_model.specs.LogLine.{bytes_of}
+use Rattle.edit_log.specs.LogLine.{bytes_of}
 use Rattle.edit_log.proofs.HexPairs.{bytes-odd, bytes-more, pair_at}
 use Rattle.edit_log.proofs.payloads.bytes_in.Goals as goal
 

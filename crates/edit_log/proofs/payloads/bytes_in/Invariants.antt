@@ -1,6 +1,6 @@
 use Rattle.std.proofs.Common.{◌≡◌, ◌++◌, ◌*◌, drop, length}
 use Rattle.std.specs.Prelude.{option_map}
-use Rattle.history_model.specs.LogLine.{bytes_of}
+use Rattle.edit_log.specs.LogLine.{bytes_of}
 use Rattle.edit_log.proofs.payloads.bytes_in.Given as goal
 
 abbrev pub invariant-loop-i : goal.invariant-loop-i
