@@ -1,30 +1,29 @@
 -- A session goes on to stand for a list of accepted events.
-use Rattle.std.specs.Prelude.{◌≡◌, ◌≢◌, Result, Ok, Err, IfErr, IfOk, OnOk, Option, Some, None}
 use Rattle.elf_core.specs.Cores.{IsConsistent}
 use Rattle.elf_core.specs.declared.core_file.Core.{Core}
-use Rattle.history_model.specs.History.{History, begun, after_event}
-use Rattle.history_model.specs.Refusals.{refusal, begins, goes_on}
+use Rattle.history_model.specs.History.{begun}
+use Rattle.history_model.specs.Refusals.{begins, goes_on}
 use Rattle.history_model.specs.declared.answers.Answer.{Answer}
 use Rattle.history_model.specs.declared.events.Event.{Event}
-use Rattle.history_model.specs.declared.faults.StepFault.{StepFault}
-use Rattle.audit_core.specs.Standing.{Holding, HasAllOf, StandsFor, start_of}
+use Rattle.audit_core.specs.Standing.{Holding, HasAllOf, StandsFor, core_start}
+use Rattle.audit_core.specs.Stepping.{AcceptsEvent}
 
 -- before the first event
-pub stands_first : (core : Core) (holding : Holding) → IsConsistent core → HasAllOf holding (begun (start_of core))
-    → StandsFor holding (begun (start_of core))
+pub stands_first : (core : Core) (holding : Holding) → IsConsistent core → HasAllOf holding (begun (core_start core))
+    → StandsFor holding (begun (core_start core))
 stands_first core holding consistent has_all =
     record { core = core; consistent = consistent; accepted = begins; has_all = has_all }
 
 -- after an event that is accepted
-pub stands_after : (moment : History) (happened : Event) (old new : Holding) (result : Result Answer StepFault)
-    → StandsFor old moment
-    → OnOk result (refusal moment happened ≡ None)
-    → OnOk result (HasAllOf new (after_event happened moment))
-    → OnOk result (StandsFor new (after_event happened moment))
-stands_after moment happened old new (Ok answer) stands accepted has_all = record {
-  core = stands.core;
-  consistent = stands.consistent;
-  accepted = goes_on happened stands.accepted accepted;
-  has_all = has_all;
+pub accepts_further : (old new : Holding) (happened : Event) (answer : Answer)
+    → AcceptsEvent HasAllOf old new happened answer → AcceptsEvent StandsFor old new happened answer
+accepts_further old new happened answer accepts = record {
+  unrefused = λ moment stands. accepts.unrefused moment stands.has_all;
+  answered = λ moment stands. accepts.answered moment stands.has_all;
+  stands = λ moment stands. record {
+    core = stands.core;
+    consistent = stands.consistent;
+    accepted = goes_on happened stands.accepted (accepts.unrefused moment stands.has_all);
+    has_all = accepts.stands moment stands.has_all;
+  };
 }
-stands_after moment happened old new (Err fault) stands accepted has_all = tt

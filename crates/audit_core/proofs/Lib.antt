@@ -1,2 +1,2 @@
-mod Lists
+mod ProcessorNumbers
 mod Accepting

@@ -1,3 +1,3 @@
-pub mod Lists
+pub mod ProcessorNumbers
 pub mod Standing
 pub mod Stepping

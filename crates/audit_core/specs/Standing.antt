@@ -1,37 +1,36 @@
 -- What a session stands for: the moment that a core and a list of accepted events lead to.
-use Rattle.std.specs.Prelude.{◌≡◌, ℕ, Bool, false, List, [], map}
+use Rattle.std.specs.Prelude.{◌≡◌, ℕ, Bool, false, List, []}
 use Rattle.paging_model.specs.declared.registers.Machine.{Machine}
-use Rattle.paging_model.specs.declared.registers.Regs.{Regs}
+use Rattle.paging_model.specs.declared.registers.Processor.{Processor}
 use Rattle.elf_core.specs.declared.core_file.Core.{Core}
 use Rattle.phys_view.specs.Seen.{Seen, memory_of}
 use Rattle.elf_core.specs.Cores.{IsConsistent}
-use Rattle.history_model.specs.History.{Start, History, begun, start_of as beginning, memory, machine, pages, placed_all, processors, time}
+use Rattle.history_model.specs.History.{Start, History, begun, start_of as beginning, memory, machine, pages, insert_processors, processors, time}
 use Rattle.history_model.specs.Refusals.{LeadsTo}
-use Rattle.audit_core.specs.Lists.{numbered}
 
 -- what a core states
-abbrev pub start_of : Core → Start
-start_of core = record {
+abbrev pub core_start : Core → Start
+core_start core = record {
   extents = core.segments;
   stated = core.stated;
   machine = core.machine;
-  processors = placed_all [] (map numbered core.processors);
+  processors = insert_processors [] core.processors;
 }
 
--- what a session holds: whether it is spent, the number of events so far, known memory, the machine and whether it is
--- stated, and each processor's number and registers, by rising number
+-- what a session holds: whether it is poisoned (memory ran out), the number of events so far, known memory, the machine
+-- and whether it is stated, and the processors in ascending order of their numbers
 pub record Holding : Type 0 where
-  pub spent : Bool
+  pub poisoned : Bool
   pub happened : ℕ
   pub seen : Seen
   pub stated : Bool
   pub machine : Machine
-  pub processors : List (ℕ × Regs)
+  pub processors : List Processor
 
--- a session that isn't spent has all that a moment has; its memory is lent by the core's segments, and no page of it was
--- written to
+-- a session that isn't poisoned has all that a moment has; its memory is that of the core's segments, and no page of it
+-- was written to
 pub record HasAllOf (holding : Holding) (moment : History) : Type 0 where
-  pub unspent : holding.spent ≡ false
+  pub unpoisoned : holding.poisoned ≡ false
   pub time_is : time moment ≡ holding.happened
   pub segments_are : (beginning moment).extents ≡ holding.seen.extents
   pub unwritten : pages moment ≡ []
@@ -44,5 +43,5 @@ pub record HasAllOf (holding : Holding) (moment : History) : Type 0 where
 pub record StandsFor (holding : Holding) (moment : History) : Type 0 where
   pub core : Core
   pub consistent : IsConsistent core
-  pub accepted : LeadsTo (begun (start_of core)) moment
+  pub accepted : LeadsTo (begun (core_start core)) moment
   pub has_all : HasAllOf holding moment

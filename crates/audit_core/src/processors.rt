@@ -1,33 +1,33 @@
-//! The processors that are known, by rising number.
+//! The processors that a session knows.
 
-ghost use Rattle.std.specs.Prelude.{◌≡◌, ◌≤◌, AllPairs, ◌≢◌, length, map, option_copied, position, [], Some, None, IfOk, IfErr, OnOk, OnErr, ℕ, true, false};
+ghost use Rattle.std.specs.Prelude.{◌≡◌, ◌≤◌, AllPairs, ◌≢◌, length, option_copied, position, [], Some, None, IfOk, IfErr, OnOk, OnErr};
 ghost use Rattle.std.specs.List.{position_or_len};
 ghost use Rattle.elf_core.specs.ProcessorLists.{has_number};
-ghost use Rattle.history_model.specs.History.{placed, placed_all, regs_in, set_in};
-ghost use Rattle.audit_core.specs.Lists.{AreDistinct, is_past, numbered, set_refusal};
+ghost use Rattle.history_model.specs.History.{insert_processor, insert_processors, regs_in, set_in};
+ghost use Rattle.audit_core.specs.ProcessorNumbers.{has_greater_number, set_refusal};
 
-use elf_core::Processor;
 use history_model::faults::StepFault;
-use proc_regs::{Machine, RegChange, Regs, change as change_regs};
+use paging_model::registers::{Machine, Processor, RegChange, Regs};
+use proc_regs::change as change_regs;
 use std::alloc::{AllocError, Global};
 use std::marker::Model;
 
-/// Processors by rising number. Each number stands once.
+/// Processors in ascending order of their numbers. Each number stands once.
 #[derive(Debug, Drop)]
 pub struct KnownProcessors {
     items: Vec<Processor>,
 }
 
 impl Model for KnownProcessors {
-    ghost use Rattle.std.specs.Prelude.{ℕ, List, map};
-    ghost use Rattle.paging_model.specs.declared.registers.Regs.{Regs};
-    ghost use Rattle.audit_core.specs.Lists.{AreDistinct, numbered};
+    ghost use Rattle.std.specs.Prelude.{List};
+    ghost use Rattle.paging_model.specs.declared.registers.Processor.{Processor};
+    ghost use Rattle.audit_core.specs.ProcessorNumbers.{HaveDistinctNumbers};
 
-    ghost Value = { List (ℕ × Regs) };
+    ghost Value = { List Processor };
 
-    ghost view = { λ known. map numbered known.items.items };
+    ghost view = { λ known. known.items.items };
 
-    ghost invariant = { λ known. AreDistinct (map numbered known.items.items) };
+    ghost invariant = { λ known. HaveDistinctNumbers known.items.items };
 }
 
 impl KnownProcessors {
@@ -40,15 +40,18 @@ impl KnownProcessors {
         }
     }
 
-    /// Processors of distinct numbers, in any order.
-    #[tactic(auto, using(crate::proofs::Lists::core_is_new))]
-    pub fn gather(alloc: Global, processors: &[Processor]) -> Result<KnownProcessors, AllocError>
+    /// Processors of distinct numbers, from any order.
+    #[tactic(auto, using(crate::proofs::ProcessorNumbers::distinct_are_new))]
+    pub fn from_slice(
+        alloc: Global,
+        processors: &[Processor],
+    ) -> Result<KnownProcessors, AllocError>
         requires { AllPairs (λ one other. one.number ≢ other.number) processors.now }
-        ensures { IfOk result (λ known. known ≡ placed_all [] (map numbered processors.now)) }
+        ensures { IfOk result (λ known. known ≡ insert_processors [] processors.now) }
     {
         let mut known = KnownProcessors::new(alloc);
         for processor in processors {
-            known.place(*processor)?;
+            known.insert(*processor)?;
         }
         Ok(known)
     }
@@ -67,14 +70,14 @@ impl KnownProcessors {
         regs_of(self.items.as_slice(), cpu)
     }
 
-    /// Adds a processor of a new number, in its place. An `Err` changes nothing.
-    #[tactic(auto, using(crate::proofs::Lists::inserted_is, crate::proofs::Lists::distinct_placed))]
-    pub fn place(&mut self, processor: Processor) -> Result<(), AllocError>
+    /// Adds a processor of a new number, where the order has it. An `Err` changes nothing.
+    #[tactic(auto, using(crate::proofs::ProcessorNumbers::insert_is, crate::proofs::ProcessorNumbers::distinct_insert))]
+    pub fn insert(&mut self, processor: Processor) -> Result<(), AllocError>
         requires { regs_in self.old processor.number ≡ None }
-        ensures ok { OnOk result (self.new ≡ placed processor.number processor.regs self.old) }
+        ensures ok { OnOk result (self.new ≡ insert_processor processor self.old) }
         ensures err { OnErr result (self.new ≡ self.old) }
     {
-        let index = place_of(self.items.as_slice(), processor.number);
+        let index = insertion_index(self.items.as_slice(), processor.number);
         self.items.insert(index, processor)?;
         Ok(())
     }
@@ -84,25 +87,21 @@ impl KnownProcessors {
     /// # Errors
     ///
     /// No processor has the number (`NoProcessor`), or the change breaks a rule (`Illegal`). Then nothing is changed.
-    #[tactic(auto, using(crate::proofs::Lists::found_is, crate::proofs::Lists::regs_at, crate::proofs::Lists::set_at, crate::proofs::Lists::distinct_at, crate::proofs::Lists::none_found))]
+    #[tactic(auto, using(crate::proofs::ProcessorNumbers::found_is, crate::proofs::ProcessorNumbers::regs_at, crate::proofs::ProcessorNumbers::set_at, crate::proofs::ProcessorNumbers::distinct_set, crate::proofs::ProcessorNumbers::none_found))]
     pub fn set(&mut self, machine: &Machine, cpu: u32, change: RegChange) -> Result<(), StepFault>
-        ensures accepted { OnOk result (set_refusal machine.now cpu change self.old ≡ None) }
-        ensures refused { IfErr result (λ fault. set_refusal machine.now cpu change self.old ≡ Some fault) }
+        ensures accepted { OnOk result (set_refusal machine.now self.old cpu change ≡ None) }
         ensures changed { OnOk result (self.new ≡ set_in cpu change self.old) }
+        ensures refused { IfErr result (λ fault.
+            set_refusal machine.now self.old cpu change ≡ Some fault) }
         ensures unchanged { OnErr result (self.new ≡ self.old) }
     {
-        let Some(index) = position_of(self.items.as_slice(), cpu) else {
-            return Err(StepFault::NoProcessor(cpu));
-        };
-        match change_regs(&mut self.items[index].regs, machine, change) {
-            Ok(()) => Ok(()),
-            Err(rule) => Err(StepFault::Illegal(rule)),
-        }
+        let index = index_of(self.items.as_slice(), cpu).ok_or(StepFault::NoProcessor(cpu))?;
+        change_regs(&mut self.items[index].regs, machine, change).map_err(StepFault::Illegal)
     }
 }
 
-// The place of the processor of a number.
-fn position_of(processors: &[Processor], cpu: u32) -> Option<usize>
+/// The index of the processor of a number.
+fn index_of(processors: &[Processor], cpu: u32) -> Option<usize>
     ensures { result ≡ position (has_number cpu) processors.now }
 {
     processors
@@ -110,27 +109,27 @@ fn position_of(processors: &[Processor], cpu: u32) -> Option<usize>
         .position(|processor| processor.number == cpu)
 }
 
-// The place for a number: that of the first greater one, or the end.
-#[tactic(auto, using(crate::proofs::Lists::place_is, crate::proofs::Lists::place_within))]
-fn place_of(processors: &[Processor], number: u32) -> usize
-    ensures place { result ≡ position_or_len (is_past number) processors.now }
+/// The index at which a number is inserted: that of the first greater one, or the end.
+#[tactic(auto, using(crate::proofs::ProcessorNumbers::index_is, crate::proofs::ProcessorNumbers::index_within))]
+fn insertion_index(processors: &[Processor], number: u32) -> usize
+    ensures index { result ≡ position_or_len (has_greater_number number) processors.now }
     ensures within { result ≤ length processors.now }
 {
-    first_past(processors, number).unwrap_or(processors.len())
+    greater_index(processors, number).unwrap_or(processors.len())
 }
 
-// The place of the first greater number.
-fn first_past(processors: &[Processor], number: u32) -> Option<usize>
-    ensures { result ≡ position (is_past number) processors.now }
+/// The index of the first processor of a greater number.
+fn greater_index(processors: &[Processor], number: u32) -> Option<usize>
+    ensures { result ≡ position (has_greater_number number) processors.now }
 {
     processors
         .iter()
         .position(|processor| processor.number > number)
 }
 
-// The registers of the first processor of a number.
+/// The registers of the first processor of a number.
 fn regs_of(processors: &[Processor], cpu: u32) -> Option<&Regs>
-    ensures { option_copied result ≡ regs_in (map numbered processors.now) cpu }
+    ensures { option_copied result ≡ regs_in processors.now cpu }
 {
     for processor in processors {
         if processor.number == cpu {

@@ -1,31 +1,28 @@
 //! A core and the events that were accepted so far.
 
-ghost use Rattle.std.specs.Prelude.{◌≡◌, ◌≢◌, ◌⊎◌, ◌<◌, ◌≤◌, ◌+◌, ◌^◌, length, Ok, Err, IfOk, IfErr, OnOk, OnErr, IsTrue, Some, None, ℕ};
+ghost use Rattle.std.specs.Prelude.{◌≡◌, ◌≢◌, ◌<◌, ◌≤◌, ◌+◌, ◌^◌, length, Ok, Err, IfOk, IfErr, OnOk, OnErr, IsTrue, Some, None};
 ghost use Rattle.elf_core.specs.Cores.{IsConsistent};
-ghost use Rattle.history_model.specs.Answering.{Answers};
-ghost use Rattle.history_model.specs.History.{History, begun, after_event, regs_in};
-ghost use Rattle.history_model.specs.Refusals.{refusal, machine_refusal, cpu_refusal, rule_refusal};
-ghost use Rattle.phys_view.specs.Seen.{memory_of};
-ghost use Rattle.audit_core.specs.Standing.{HasAllOf, StandsFor, start_of};
-ghost use Rattle.audit_core.specs.Stepping.{wants_memory};
+ghost use Rattle.history_model.specs.History.{History, begun, regs_in};
+ghost use Rattle.history_model.specs.Refusals.{cpu_refusal};
+ghost use Rattle.audit_core.specs.Standing.{HasAllOf, StandsFor, core_start};
+ghost use Rattle.audit_core.specs.Stepping.{AcceptsEvent, RefusesEvent, RunsOutOfMemory};
 
 use crate::asking;
 use crate::processors::KnownProcessors;
-use elf_core::{Core, Processor};
+use elf_core::Core;
 use history_model::answers::Answer;
 use history_model::events::Event;
 use history_model::faults::StepFault;
+use paging_model::access::Access;
+use paging_model::registers::{Machine, PROCESSOR_LIMIT, Processor, RegChange, Regs};
 use phys_view::{Ledger, Steps, View};
-use proc_regs::{Access, Machine, RegChange, Regs, check};
+use proc_regs::check;
 use std::alloc::{AllocError, Global};
 use std::marker::Model;
 
-/// The greatest number of processors.
-const PROCESSOR_LIMIT: usize = 64;
-
 /// Memory, the machine and its processors at one moment of a log.
 ///
-/// A session is spent once memory was wanted: from then on it refuses every event.
+/// A session is poisoned once memory ran out: from then on it answers every event by `StepFault::Memory`.
 #[derive(Drop)]
 pub struct Session<'a, L: Ledger> {
     view: View<'a, L>,
@@ -33,7 +30,7 @@ pub struct Session<'a, L: Ledger> {
     stated: bool,
     processors: KnownProcessors,
     happened: u32,
-    spent: bool,
+    poisoned: bool,
 }
 
 impl<'a, L: Ledger> Model for Session<'a, L> {
@@ -41,7 +38,14 @@ impl<'a, L: Ledger> Model for Session<'a, L> {
 
     ghost Value = { Holding };
 
-    ghost view = { λ s. record { spent = s.spent; happened = s.happened; seen = s.view; stated = s.stated; machine = s.machine; processors = s.processors } };
+    ghost view = { λ s. record {
+      poisoned = s.poisoned;
+      happened = s.happened;
+      seen = s.view;
+      stated = s.stated;
+      machine = s.machine;
+      processors = s.processors;
+    } };
 }
 
 impl<'a, L: Ledger> Session<'a, L> {
@@ -49,19 +53,19 @@ impl<'a, L: Ledger> Session<'a, L> {
     ///
     /// # Errors
     ///
-    /// Memory was wanted.
+    /// Out of memory.
     pub fn start(alloc: Global, core: Core<'a>) -> Result<Session<'a, L>, AllocError>
         requires { IsConsistent core }
-        ensures { IfOk result (λ session. StandsFor session (begun (start_of core.entry))) }
+        ensures { IfOk result (λ session. StandsFor session (begun (core_start core.entry))) }
     {
-        let processors = KnownProcessors::gather(alloc, core.processors.as_slice())?;
+        let processors = KnownProcessors::from_slice(alloc, core.processors.as_slice())?;
         Ok(Session {
             view: View::new(core.segments),
             machine: core.machine,
             stated: core.stated,
             processors,
             happened: 0,
-            spent: false,
+            poisoned: false,
         })
     }
 
@@ -79,30 +83,21 @@ impl<'a, L: Ledger> Session<'a, L> {
         self.processors.len() as u64
     }
 
-    /// Handles an event, and answers it. An event that is refused changes nothing. The caller hands it at most
-    /// 4,294,967,295 events, besides the state lines.
+    /// Handles an event: answers it, or refuses it and stays as it was. The caller hands over at most 4,294,967,295
+    /// events, state lines not counted.
     ///
     /// # Errors
     ///
-    /// The first reason for which the event is refused; `NotBuilt` comes before all others. `Memory` where memory was
-    /// wanted: then the session is spent, and refuses every further event by `Memory`.
+    /// The first reason for which the event is refused; `NotBuilt` comes before all others. `Memory` where memory ran
+    /// out: the session is poisoned then, and answers every further event by `Memory`.
     pub fn step(&mut self, event: &Event, steps: &mut Steps<L>) -> Result<Answer, StepFault>
         requires { self.old.happened + 1 < 2 ^ 32 }
-        // An accepted event: its answer, and the moment after it.
-        ensures answered { (moment : History) → StandsFor self.old moment → IfOk result (Answers moment event.now) }
-        ensures accepted { (moment : History) → StandsFor self.old moment → OnOk result (refusal moment event.now ≡ None) }
-        ensures stands { (moment : History) → StandsFor self.old moment → OnOk result (StandsFor self.new (after_event event.now moment)) }
-
-        // A refused event: the first reason, and nothing changed.
-        ensures refused { (moment : History) → StandsFor self.old moment → (fault : StepFault) → result ≡ Err fault → fault ≢ StepFault.Memory → refusal moment event.now ≡ Some fault }
-        ensures unchanged { (fault : StepFault) → result ≡ Err fault → fault ≢ StepFault.Memory → self.new ≡ self.old }
-
-        // Want of memory: only of an event that isn't refused and wants some, and from then on.
-        ensures wanted { (moment : History) → StandsFor self.old moment → result ≡ Err StepFault.Memory → refusal moment event.now ≡ None }
-        ensures memory { result ≡ Err StepFault.Memory → IsTrue self.old.spent ⊎ IsTrue (wants_memory event.now) }
-        ensures spent { result ≡ Err StepFault.Memory → IsTrue self.new.spent }
-        ensures stays_spent { IsTrue self.old.spent → result ≡ Err StepFault.Memory }
-
+        ensures accepted { IfOk result (AcceptsEvent StandsFor self.old self.new event.now) }
+        ensures refused { IfErr result (λ fault. fault ≢ StepFault.Memory
+            → RefusesEvent StandsFor self.old self.new event.now fault) }
+        ensures out_of_memory { result ≡ Err StepFault.Memory
+            → RunsOutOfMemory StandsFor self.old self.new event.now }
+        ensures stays_poisoned { IsTrue self.old.poisoned → result ≡ Err StepFault.Memory }
         ensures time { self.new.happened ≤ self.old.happened + 1 }
         ensures cost { steps.new ≤ steps.old + 5 }
         ensures refused_cost { OnErr result (steps.new ≡ steps.old) }
@@ -110,24 +105,21 @@ impl<'a, L: Ledger> Session<'a, L> {
         self.handle(event, steps)
     }
 
-    // The same, of a session that has all that a moment has, however that came.
+    /// The step itself, under a contract of its own, since each arm is proved from what the session has of a moment
+    /// (`HasAllOf`); that accepted events lead to the moment (`StandsFor`) is proved in `step`, once for all arms.
     fn handle(&mut self, event: &Event, steps: &mut Steps<L>) -> Result<Answer, StepFault>
         requires { self.old.happened + 1 < 2 ^ 32 }
-        ensures answered { (moment : History) → HasAllOf self.old moment → IfOk result (Answers moment event.now) }
-        ensures accepted { (moment : History) → HasAllOf self.old moment → OnOk result (refusal moment event.now ≡ None) }
-        ensures stands { (moment : History) → HasAllOf self.old moment → OnOk result (HasAllOf self.new (after_event event.now moment)) }
-        ensures refused { (moment : History) → HasAllOf self.old moment → (fault : StepFault) → result ≡ Err fault → fault ≢ StepFault.Memory → refusal moment event.now ≡ Some fault }
-        ensures unchanged { (fault : StepFault) → result ≡ Err fault → fault ≢ StepFault.Memory → self.new ≡ self.old }
-        ensures wanted { (moment : History) → HasAllOf self.old moment → result ≡ Err StepFault.Memory → refusal moment event.now ≡ None }
-        ensures memory { result ≡ Err StepFault.Memory → IsTrue self.old.spent ⊎ IsTrue (wants_memory event.now) }
-        ensures spent { result ≡ Err StepFault.Memory → IsTrue self.new.spent }
-        ensures stays_spent { IsTrue self.old.spent → result ≡ Err StepFault.Memory }
-
+        ensures accepted { IfOk result (AcceptsEvent HasAllOf self.old self.new event.now) }
+        ensures refused { IfErr result (λ fault. fault ≢ StepFault.Memory
+            → RefusesEvent HasAllOf self.old self.new event.now fault) }
+        ensures out_of_memory { result ≡ Err StepFault.Memory
+            → RunsOutOfMemory HasAllOf self.old self.new event.now }
+        ensures stays_poisoned { IsTrue self.old.poisoned → result ≡ Err StepFault.Memory }
         ensures time { self.new.happened ≤ self.old.happened + 1 }
         ensures cost { steps.new ≤ steps.old + 5 }
         ensures refused_cost { OnErr result (steps.new ≡ steps.old) }
     {
-        if self.spent {
+        if self.poisoned {
             return Err(StepFault::Memory);
         }
         match *event {
@@ -143,14 +135,13 @@ impl<'a, L: Ledger> Session<'a, L> {
         }
     }
 
-    // States the machine: once, before processors and events.
+    /// States the machine: once, before processors and events.
     fn state_machine(&mut self, machine: Machine) -> Result<Answer, StepFault>
-        ensures answer { IfOk result (λ answer. answer ≡ Answer.Nothing) }
-        ensures accepted { (moment : History) → HasAllOf self.old moment → OnOk result (machine_refusal moment ≡ None) }
-        ensures stands { (moment : History) → HasAllOf self.old moment → OnOk result (HasAllOf self.new (after_event (Event.Machine machine) moment)) }
-        ensures refused { (moment : History) → HasAllOf self.old moment → IfErr result (λ fault. machine_refusal moment ≡ Some fault) }
-        ensures unchanged { OnErr result (self.new ≡ self.old) }
-        ensures no_memory { result ≢ Err StepFault.Memory }
+        ensures accepted { IfOk result
+            (AcceptsEvent HasAllOf self.old self.new (Event.Machine machine)) }
+        ensures refused { IfErr result
+            (RefusesEvent HasAllOf self.old self.new (Event.Machine machine)) }
+        ensures never_memory { result ≢ Err StepFault.Memory }
         ensures time { self.new.happened ≡ self.old.happened }
     {
         if self.happened > 0 || self.stated || self.processors.len() > 0 {
@@ -161,57 +152,57 @@ impl<'a, L: Ledger> Session<'a, L> {
         Ok(Answer::Nothing)
     }
 
-    // States a processor: before the first event, under a number of its own.
+    /// States a processor: before the first event, under a number of its own.
     fn state_processor(&mut self, number: u32, regs: Regs) -> Result<Answer, StepFault>
-        ensures answer { IfOk result (λ answer. answer ≡ Answer.Nothing) }
-        ensures accepted { (moment : History) → HasAllOf self.old moment → OnOk result (cpu_refusal moment number regs ≡ None) }
-        ensures stands { (moment : History) → HasAllOf self.old moment → OnOk result (HasAllOf self.new (after_event (Event.Cpu number regs) moment)) }
-        ensures refused { (moment : History) → HasAllOf self.old moment → IfErr result (λ fault. fault ≢ StepFault.Memory → cpu_refusal moment number regs ≡ Some fault) }
-        ensures unchanged { (fault : StepFault) → result ≡ Err fault → fault ≢ StepFault.Memory → self.new ≡ self.old }
-        ensures wanted { (moment : History) → HasAllOf self.old moment → result ≡ Err StepFault.Memory → cpu_refusal moment number regs ≡ None }
-        ensures spent { result ≡ Err StepFault.Memory → IsTrue self.new.spent }
+        ensures accepted { IfOk result
+            (AcceptsEvent HasAllOf self.old self.new (Event.Cpu number regs)) }
+        ensures refused { IfErr result (λ fault. fault ≢ StepFault.Memory
+            → RefusesEvent HasAllOf self.old self.new (Event.Cpu number regs) fault) }
+        ensures out_of_memory { result ≡ Err StepFault.Memory
+            → RunsOutOfMemory HasAllOf self.old self.new (Event.Cpu number regs) }
         ensures time { self.new.happened ≡ self.old.happened }
     {
-        if let Some(fault) = self.processor_fault(number, &regs) {
-            return Err(fault);
-        }
-        if self.processors.place(Processor { number, regs }).is_err() {
-            self.spent = true;
+        self.check_processor(number, &regs)?;
+        if self.processors.insert(Processor { number, regs }).is_err() {
+            self.poisoned = true;
             return Err(StepFault::Memory);
         }
         Ok(Answer::Nothing)
     }
 
-    // Why a processor may not be stated.
-    fn processor_fault(&self, number: u32, regs: &Regs) -> Option<StepFault>
-        ensures fault { (moment : History) → HasAllOf self.now moment → result ≡ cpu_refusal moment number regs.now }
-        ensures no_memory { result ≢ Some StepFault.Memory }
-        ensures new { result ≡ None → regs_in self.now.processors number ≡ None }
+    /// Whether a processor may be stated.
+    ///
+    /// # Errors
+    ///
+    /// The first reason for which it may not.
+    fn check_processor(&self, number: u32, regs: &Regs) -> Result<(), StepFault>
+        ensures accepted { (moment : History) → HasAllOf self.now moment
+            → OnOk result (cpu_refusal moment number regs.now ≡ None) }
+        ensures refused { (moment : History) → HasAllOf self.now moment
+            → IfErr result (λ fault. cpu_refusal moment number regs.now ≡ Some fault) }
+        ensures never_memory { result ≢ Err StepFault.Memory }
+        ensures new { OnOk result (regs_in self.now.processors number ≡ None) }
     {
         if self.happened > 0 {
-            return Some(StepFault::LateState);
+            return Err(StepFault::LateState);
         }
         if self.processors.regs(number).is_some() {
-            return Some(StepFault::DoubleProcessor(number));
+            return Err(StepFault::DoubleProcessor(number));
         }
         if self.processors.len() >= PROCESSOR_LIMIT {
-            return Some(StepFault::TooManyProcessors);
+            return Err(StepFault::TooManyProcessors);
         }
-        match check(&self.machine, regs) {
-            Ok(()) => None,
-            Err(rule) => Some(StepFault::Illegal(rule)),
-        }
+        check(&self.machine, regs).map_err(StepFault::Illegal)
     }
 
-    // Changes a register of a processor.
+    /// Changes a register of a processor.
     fn set_register(&mut self, cpu: u32, change: RegChange) -> Result<Answer, StepFault>
         requires { self.old.happened + 1 < 2 ^ 32 }
-        ensures answer { IfOk result (λ answer. answer ≡ Answer.Nothing) }
-        ensures accepted { (moment : History) → HasAllOf self.old moment → OnOk result (rule_refusal moment (Event.Set cpu change) ≡ None) }
-        ensures stands { (moment : History) → HasAllOf self.old moment → OnOk result (HasAllOf self.new (after_event (Event.Set cpu change) moment)) }
-        ensures refused { (moment : History) → HasAllOf self.old moment → IfErr result (λ fault. rule_refusal moment (Event.Set cpu change) ≡ Some fault) }
-        ensures unchanged { OnErr result (self.new ≡ self.old) }
-        ensures no_memory { result ≢ Err StepFault.Memory }
+        ensures accepted { IfOk result
+            (AcceptsEvent HasAllOf self.old self.new (Event.Set cpu change)) }
+        ensures refused { IfErr result
+            (RefusesEvent HasAllOf self.old self.new (Event.Set cpu change)) }
+        ensures never_memory { result ≢ Err StepFault.Memory }
         ensures time { self.new.happened ≤ self.old.happened + 1 }
     {
         self.processors.set(&self.machine, cpu, change)?;
@@ -219,7 +210,7 @@ impl<'a, L: Ledger> Session<'a, L> {
         Ok(Answer::Nothing)
     }
 
-    // Answers whether a processor is granted an access.
+    /// Answers whether a processor is granted an access.
     fn ask(
         &mut self,
         cpu: u32,
@@ -228,19 +219,19 @@ impl<'a, L: Ledger> Session<'a, L> {
         steps: &mut Steps<L>,
     ) -> Result<Answer, StepFault>
         requires { self.old.happened + 1 < 2 ^ 32 }
-        ensures answered { (moment : History) → HasAllOf self.old moment → IfOk result (Answers moment (Event.Ask cpu access pointer)) }
-        ensures accepted { (moment : History) → HasAllOf self.old moment → OnOk result (rule_refusal moment (Event.Ask cpu access pointer) ≡ None) }
-        ensures stands { (moment : History) → HasAllOf self.old moment → OnOk result (HasAllOf self.new (after_event (Event.Ask cpu access pointer) moment)) }
-        ensures refused { (moment : History) → HasAllOf self.old moment → IfErr result (λ fault. rule_refusal moment (Event.Ask cpu access pointer) ≡ Some fault) }
-        ensures unchanged { OnErr result (self.new ≡ self.old) }
-        ensures no_memory { result ≢ Err StepFault.Memory }
+        ensures accepted { IfOk result
+            (AcceptsEvent HasAllOf self.old self.new (Event.Ask cpu access pointer)) }
+        ensures refused { IfErr result
+            (RefusesEvent HasAllOf self.old self.new (Event.Ask cpu access pointer)) }
+        ensures never_memory { result ≢ Err StepFault.Memory }
         ensures time { self.new.happened ≤ self.old.happened + 1 }
         ensures cost { steps.new ≤ steps.old + 5 }
         ensures refused_cost { OnErr result (steps.new ≡ steps.old) }
     {
-        let Some(regs) = self.processors.regs(cpu) else {
-            return Err(StepFault::NoProcessor(cpu));
-        };
+        let regs = self
+            .processors
+            .regs(cpu)
+            .ok_or(StepFault::NoProcessor(cpu))?;
         let answer = asking::ask(&self.view, &self.machine, regs, access, pointer, steps);
         self.happened += 1;
         Ok(Answer::Asked(answer))

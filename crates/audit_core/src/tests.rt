@@ -1,13 +1,18 @@
 //! Events one after another, over a core whose tables map the first GByte to the second: a supervisor page with R/W.
 
-ghost use Rattle.std.specs.Prelude.{◌≡◌, ◌<◌};
+ghost use Rattle.std.specs.Prelude.{⊤};
 
 use super::*;
-use elf_core::state_notes::machine_of;
+use elf_core::{Core, Processors, Segment, Segments};
+use history_model::answers::{Answer, Why};
+use history_model::events::Event;
+use history_model::faults::StepFault;
+use paging_model::access::{Access, Rule};
+use paging_model::registers::{Machine, RegChange, RegRule, Regs};
+use phys_view::{Ledger, Reader, Steps, answer_of};
 use std::alloc::{AllocError, Global};
-use std::marker::Brand;
-use std::sync::ledger::{Blank, Ledger as Books};
 use std::test::Fail;
+use test_support::registers::REGS;
 
 /// The first entry of the table at 0x1000, which references the table at 0x2000.
 const TOP: [u8; 8] = [0x03, 0x20, 0, 0, 0, 0, 0, 0];
@@ -15,35 +20,29 @@ const TOP: [u8; 8] = [0x03, 0x20, 0, 0, 0, 0, 0, 0];
 /// The first entry of the table at 0x2000, which maps a page of 1 GByte.
 const LARGE: [u8; 8] = [0x83, 0, 0, 0x40, 0, 0, 0, 0];
 
-/// 64-bit paging with 4 levels, from the table at 0x1000.
-const STATE: Regs = Regs {
-    cr0: 0x8001_0001,
-    cr3: 0x1000,
-    cr4: 0x20,
-    efer: 0xd00,
-    ac: false,
-    pkru: 0,
-    pkrs: 0,
-};
-
 /// CR4 without PAE.
 const NO_PAE: RegChange = RegChange::Cr4(0);
 
 /// CR4 with PAE, SMAP and LASS.
 const SEPARATED: RegChange = RegChange::Cr4(0x820_0020);
 
+/// The machine: a physical width of 40, and 1-GByte pages.
 const MACHINE: Event = Event::Machine(Machine { m: 40, big: true });
 
+/// An event that no step answers yet.
 const LIST: Event = Event::List { cpu: 0 };
 
+/// A processor with the small registers.
 const fn cpu(number: u32) -> Event {
-    Event::Cpu(number, STATE)
+    Event::Cpu(number, REGS)
 }
 
+/// A change of a register.
 const fn set(cpu: u32, change: RegChange) -> Event {
     Event::Set { cpu, change }
 }
 
+/// An access by a pointer.
 const fn ask(cpu: u32, access: Access, pointer: u64) -> Event {
     Event::Ask {
         cpu,
@@ -61,7 +60,8 @@ enum Said {
     Refused(StepFault),
 }
 
-fn of(step: Result<Answer, StepFault>) -> Said {
+/// What comes of a step.
+fn said_of(step: Result<Answer, StepFault>) -> Said {
     match step {
         Ok(Answer::Nothing) => Said::Nothing,
         Ok(Answer::Asked(asked)) => Said::Asked(asked),
@@ -70,7 +70,7 @@ fn of(step: Result<Answer, StepFault>) -> Said {
     }
 }
 
-/// What came of events, and what the session then told.
+/// What came of events, and then the session's time and number of processors.
 #[derive(Debug, Drop)]
 struct Summary {
     said: Vec<Said>,
@@ -78,6 +78,7 @@ struct Summary {
     processors: u64,
 }
 
+/// A session over the two tables.
 fn start<'a, L: Ledger>(
     alloc: Global,
     top: &'a [u8; 8],
@@ -96,40 +97,49 @@ fn start<'a, L: Ledger>(
     let core = Core {
         segments: Segments::from_vec(items),
         stated: false,
-        machine: machine_of(52, true),
+        machine: Machine::new(52, true),
         processors: Processors::new(alloc),
     };
     Session::start(alloc, core)
 }
 
-fn told_with<B: Books>(alloc: Global, events: &[Event], blank: Blank) -> Result<Summary, AllocError>
-    requires name { blank.name ≡ B.name }
-    requires parts { blank.parts ≡ B.parts }
-    requires some { 0 < B.parts }
-{
-    let mut steps = Steps::new(Uncounted::<B>::new(blank));
-    let mut session = start(alloc, &TOP, &LARGE)?;
-    let mut said = Vec::new(alloc);
-    for event in events {
-        if session.now() < u32::MAX {
-            said.push(of(session.step(event, &mut steps)))?;
-        }
-    }
-    let (now, processors) = (session.now(), session.processors());
-    Ok(Summary {
-        said,
-        now,
-        processors,
-    })
+/// Events that a new session steps through.
+struct Steppings<'a> {
+    alloc: Global,
+    events: &'a [Event],
 }
 
-fn told(alloc: Global, events: &[Event]) -> Result<Summary, AllocError> {
-    told_with::<Brand>(alloc, events, Blank::new(1))
+impl<'a> Reader for Steppings<'a> {
+    type Answer = Result<Summary, AllocError>;
+
+    ghost gives = { λ _ _. ⊤ };
+
+    fn read<L: Ledger>(self, steps: &mut Steps<L>) -> Result<Summary, AllocError> {
+        let Steppings { alloc, events } = self;
+        let mut session = start(alloc, &TOP, &LARGE)?;
+        let mut said = Vec::new(alloc);
+        for event in events {
+            if session.now() < u32::MAX {
+                said.push(said_of(session.step(event, steps)))?;
+            }
+        }
+        let (now, processors) = (session.now(), session.processors());
+        Ok(Summary {
+            said,
+            now,
+            processors,
+        })
+    }
+}
+
+/// What comes of events, one after the other.
+fn summary_of(alloc: Global, events: &[Event]) -> Result<Summary, AllocError> {
+    answer_of(Steppings { alloc, events })
 }
 
 #[test]
 fn accepted_events_are_answered(rt: HostRuntime) -> Result<(), Fail> {
-    let told = told(
+    let summary = summary_of(
         rt.alloc(),
         &[
             MACHINE,
@@ -145,7 +155,7 @@ fn accepted_events_are_answered(rt: HostRuntime) -> Result<(), Fail> {
         ],
     )?;
     assert_eq!(rt;
-        told.said.as_slice(),
+        summary.said.as_slice(),
         [
             Said::Nothing,
             Said::Nothing,
@@ -161,13 +171,13 @@ fn accepted_events_are_answered(rt: HostRuntime) -> Result<(), Fail> {
         .as_slice()
     );
     // State lines don't count.
-    assert_eq!(rt; (told.now, told.processors), (7, 2));
+    assert_eq!(rt; (summary.now, summary.processors), (7, 2));
     Ok(())
 }
 
 #[test]
 fn refused_events_change_nothing(rt: HostRuntime) -> Result<(), Fail> {
-    let told = told(
+    let summary = summary_of(
         rt.alloc(),
         &[
             LIST,
@@ -186,7 +196,7 @@ fn refused_events_change_nothing(rt: HostRuntime) -> Result<(), Fail> {
         ],
     )?;
     assert_eq!(rt;
-        told.said.as_slice(),
+        summary.said.as_slice(),
         [
             Said::Refused(StepFault::NotBuilt),
             Said::Nothing,
@@ -204,7 +214,7 @@ fn refused_events_change_nothing(rt: HostRuntime) -> Result<(), Fail> {
         ]
         .as_slice()
     );
-    assert_eq!(rt; (told.now, told.processors), (2, 1));
+    assert_eq!(rt; (summary.now, summary.processors), (2, 1));
     Ok(())
 }
 
@@ -214,11 +224,11 @@ fn there_are_64_processors_at_most(rt: HostRuntime) -> Result<(), Fail> {
     for number in (0..65).rev() {
         events.push(cpu(number))?;
     }
-    let told = told(rt.alloc(), events.as_slice())?;
+    let summary = summary_of(rt.alloc(), events.as_slice())?;
     assert_eq!(rt;
-        told.said.last(),
+        summary.said.last(),
         Some(&Said::Refused(StepFault::TooManyProcessors))
     );
-    assert_eq!(rt; (told.now, told.processors), (0, 64));
+    assert_eq!(rt; (summary.now, summary.processors), (0, 64));
     Ok(())
 }

@@ -1,11 +1,8 @@
 -- An accepted event leads on from the moment that the session stands for.
-use Rattle.audit_core.proofs.Accepting.{stands_after}
+use Rattle.std.proofs.lemmas.Result.{IfOk-weaker}
+use Rattle.audit_core.proofs.Accepting.{accepts_further}
 use Rattle.audit_core.proofs.session.Session.step.Goals as goal
 
-pub returns-clause-stands : goal.returns-clause-stands
-returns-clause-stands g c moment stands =
-    stands_after moment c.args.event.now _ _ _ stands (c.handle.ensures.accepted moment stands.has_all)
-    (c.handle.ensures.stands moment stands.has_all)
-
-pub returns-clause-refused : goal.returns-clause-refused
-returns-clause-refused g c moment stands fault is other = c.handle.ensures.refused moment stands.has_all fault is other
+pub returns-clause-accepted : goal.returns-clause-accepted
+returns-clause-accepted g c =
+    IfOk-weaker _ _ _ (λ answer accepts. accepts_further _ _ _ answer accepts) c.handle.ensures.accepted
