@@ -1,3 +1,4 @@
+-- Counts that rose in one of several calls.
 use Rattle.std.proofs.Common.{ℕ, ◌≤◌, arith}
 use Rattle.outside.specs.Count.{Rose}
 

@@ -1,5 +1,5 @@
 pub mod Counts
-pub mod Front
-pub mod Unheld
+pub mod MissingNames
+pub mod PieceBytes
+pub mod Prefixes
 pub mod Writer
-pub mod Written

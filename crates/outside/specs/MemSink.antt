@@ -9,6 +9,6 @@ pub record SinkState : Type 0 where
   pub calls : ℕ
   pub faults : ℕ
 
--- how many bytes a put keeps whose number is listed: the first entry of that number counts
-abbrev pub kept_of : List (ℕ × ℕ) → ℕ → Option ℕ
-kept_of failing call = option_map (λ entry. entry.1) (find (λ entry. entry.0 == call) failing)
+-- how many bytes a put keeps whose number is listed; the first entry of that number counts
+abbrev pub kept_count : List (ℕ × ℕ) → ℕ → Option ℕ
+kept_count failing call = option_map (λ entry. entry.1) (find (λ entry. entry.0 == call) failing)

@@ -6,7 +6,7 @@ pub record IsWhole (content : List ℕ) (limit : ℕ) (bytes : List ℕ) (cut : 
   pub bytes_are : bytes ≡ take limit content
   pub cut_is : cut ≡ nat_lt limit (length content)
 
--- the bytes are the first ones
-pub record IsFront (content bytes : List ℕ) : Type 0 where
+-- the bytes are a prefix of the content
+pub record IsBytePrefix (content bytes : List ℕ) : Type 0 where
   pub within : length bytes ≤ length content
   pub same : bytes ≡ take (length bytes) content

@@ -1,8 +1,9 @@
-// A shelf over the host's files, at the trusted edge: it tells no bytes.
+//! A shelf over the host's files, at the trusted edge: their bytes are unknown.
+
 ghost use Rattle.std.specs.Prelude.{◌≡◌, ◌≤◌, ℕ, length, drop, IfOk, OnErr};
 ghost use Rattle.std.proofs.Common.{rules};
 ghost use Rattle.outside.specs.Count.{Rose, faults_after};
-ghost use Rattle.outside.specs.Shelf.{untold};
+ghost use Rattle.outside.specs.Shelf.{unspecified};
 
 use crate::shelf::{Failed, Shelf};
 use std::fs::File;
@@ -12,8 +13,7 @@ use std::{fs, io};
 
 /// Reads the host's files: a name is a path.
 ///
-/// The file of the last name stays open until another is read. Contracts see a shelf as its count
-/// of faults.
+/// The file of the last name stays open until another is read. Contracts see a shelf as its count of faults.
 #[derive(Drop)]
 pub struct FileShelf {
     rt: HostRuntime,
@@ -27,6 +27,7 @@ impl Model for FileShelf {
     ghost view = { λ shelf. shelf.faults };
 }
 
+/// An open file and its name.
 #[derive(Drop)]
 struct Opened {
     name: String,
@@ -45,7 +46,9 @@ impl FileShelf {
         }
     }
 
-    // Without memory for the name the file isn't kept open, and the next read opens it again.
+    /// Reads by the open file where it has this name, and else opens the file.
+    ///
+    /// Out of memory for the name, the file isn't kept open, and the next read opens it again.
     fn read_file(&mut self, name: &str, at: u64, into: &mut [u8]) -> io::Result<usize>
         ensures within { IfOk result (λ count. count ≤ length into.new) }
         ensures rest { IfOk result (λ count. drop count into.new ≡ drop count into.old) }
@@ -65,7 +68,7 @@ impl FileShelf {
     }
 }
 
-// Reads until there is no room or the file ends.
+/// Reads until there is no room or the file ends.
 fn fill(file: &File, at: u64, into: &mut [u8]) -> io::Result<usize>
     ensures within { IfOk result (λ count. count ≤ length into.new) }
     ensures rest { IfOk result (λ count. drop count into.new ≡ drop count into.old) }
@@ -87,7 +90,7 @@ fn fill(file: &File, at: u64, into: &mut [u8]) -> io::Result<usize>
     Ok(done)
 }
 
-// What the host did to the rest of a buffer isn't known, so it gets one of its own.
+/// Reads at an offset, by way of a buffer: what the host did to the rest of the buffer is unknown.
 fn read_part(file: &File, at: u64, own: &mut [u8], into: &mut [u8]) -> io::Result<usize>
     ensures within { IfOk result (λ count. count ≤ length into.new) }
     ensures rest { IfOk result (λ count. drop count into.new ≡ drop count into.old) }
@@ -99,7 +102,7 @@ fn read_part(file: &File, at: u64, own: &mut [u8], into: &mut [u8]) -> io::Resul
 }
 
 impl Shelf for FileShelf {
-    ghost told = { λ _ _. untold };
+    ghost known = { λ _ _. unspecified };
 
     ghost reach = { λ _ _. 0 };
 
@@ -116,12 +119,10 @@ impl Shelf for FileShelf {
         // One count serves every name, and moves at failures alone.
         ensures faults { self.new ≡ faults_after self.old result }
     {
-        match self.read_file(name, at, into) {
-            Ok(count) => Ok(count),
-            Err(_) => {
-                self.faults = self.faults.saturating_add(1);
-                Err(Failed)
-            }
+        let result = self.read_file(name, at, into);
+        if result.is_err() {
+            self.faults = self.faults.saturating_add(1);
         }
+        result.map_err(|_| Failed)
     }
 }

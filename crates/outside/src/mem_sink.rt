@@ -1,8 +1,9 @@
-// A sink in memory whose puts fail where a list says so.
+//! A sink in memory, some of whose puts fail.
+
 ghost use Rattle.std.specs.Prelude.{◌≡◌, ℕ, ◌≤◌, [], ◌∷◌, ◌++◌, take, map, OnOk, OnErr, IsErr, ◌⊎◌, None, Some};
 ghost use Rattle.outside.specs.Count.{Rose, next_count, faults_after};
-ghost use Rattle.outside.specs.Sink.{written, Puts};
-ghost use Rattle.outside.specs.MemSink.{SinkState, kept_of};
+ghost use Rattle.outside.specs.Sink.{piece_bytes, Puts};
+ghost use Rattle.outside.specs.MemSink.{SinkState, kept_count};
 
 use crate::shelf::Failed;
 use crate::sink::Sink;
@@ -11,8 +12,8 @@ use std::marker::Model;
 
 /// Pieces that were put, in memory. Puts fail where a list of their numbers says so.
 ///
-/// Puts are numbered from 1. One that is listed fails and keeps at most so many of its bytes. One
-/// that isn't fails only for want of memory, and then keeps none.
+/// Puts are numbered from 1. A listed one fails, and keeps a prefix of its piece of at most the listed length. Another
+/// fails only out of memory, and then keeps none of its piece.
 #[derive(Drop)]
 pub struct MemSink {
     alloc: Global,
@@ -33,7 +34,8 @@ impl Model for MemSink {
       faults = sink.faults;
     } };
 
-    ghost invariant = { λ sink. sink.joined.items ≡ written (map (λ piece. piece.items) sink.pieces.items) };
+    ghost invariant = { λ sink. sink.joined.items
+        ≡ piece_bytes (map (λ piece. piece.items) sink.pieces.items) };
 }
 
 impl MemSink {
@@ -51,10 +53,11 @@ impl MemSink {
         }
     }
 
-    /// Lists the number of a put that is to fail, and how many of its bytes it keeps at most. The
-    /// first entry of a number counts. An error changes nothing.
+    /// Lists the number of a put that is to fail, and how many of its bytes it keeps at most. The first entry of a
+    /// number counts. An error changes nothing.
     pub fn fail(&mut self, call: u64, kept: usize) -> Result<(), AllocError>
-        ensures ok { OnOk result (self.new ≡ record self.old { failing = self.old.failing ++ (call, kept) ∷ [] }) }
+        ensures ok { OnOk result
+            (self.new ≡ record self.old { failing = self.old.failing ++ (call, kept) ∷ [] }) }
         ensures err { OnErr result (self.new ≡ self.old) }
     {
         self.failing.push((call, kept))?;
@@ -63,14 +66,15 @@ impl MemSink {
 
     /// All bytes written.
     pub fn bytes(&self) -> &[u8]
-        ensures { result.now ≡ written self.now.pieces }
+        ensures { result.now ≡ piece_bytes self.now.pieces }
     {
         self.joined.as_slice()
     }
 
-    // Adds a piece. An error changes nothing.
-    fn keep(&mut self, piece: &[u8]) -> Result<(), AllocError>
-        ensures ok { OnOk result (self.new ≡ record self.old { pieces = self.old.pieces ++ piece.now ∷ [] }) }
+    /// Adds a piece. An error changes nothing.
+    fn add_piece(&mut self, piece: &[u8]) -> Result<(), AllocError>
+        ensures ok { OnOk result
+            (self.new ≡ record self.old { pieces = self.old.pieces ++ piece.now ∷ [] }) }
         ensures err { OnErr result (self.new ≡ self.old) }
     {
         let own = piece.to_vec(self.alloc)?;
@@ -79,15 +83,16 @@ impl MemSink {
         self.joined.extend_from_slice(piece)
     }
 
-    // How many bytes the put of this number keeps, where it is listed.
-    fn kept(&self) -> Option<usize>
-        ensures { result ≡ kept_of self.now.failing self.now.calls }
+    /// How many bytes the current put keeps, where its number is listed.
+    fn kept_count(&self) -> Option<usize>
+        ensures { result ≡ kept_count self.now.failing self.now.calls }
     {
         let calls = self.calls;
         let (_, kept) = self.failing.iter().find(|entry| entry.0 == calls)?;
         Some(*kept)
     }
 
+    /// Counts a failure.
     fn count_fault(&mut self)
         ensures { self.new ≡ record self.old { faults = next_count self.old.faults } }
     {
@@ -109,14 +114,16 @@ impl Sink for MemSink {
         ensures calls { self.new.calls ≡ next_count self.old.calls }
         ensures failing { self.new.failing ≡ self.old.failing }
         ensures faults { self.new.faults ≡ faults_after self.old.faults result }
-        ensures unlisted { kept_of self.old.failing self.new.calls ≡ None → OnErr result (self.new.pieces ≡ self.old.pieces) }
-        ensures listed { (kept : ℕ) → kept_of self.old.failing self.new.calls ≡ Some kept → IsErr result
-            × ((self.new.pieces ≡ self.old.pieces ++ take kept bytes.now ∷ []) ⊎ (self.new.pieces ≡ self.old.pieces)) }
+        ensures unlisted { kept_count self.old.failing self.new.calls ≡ None
+            → OnErr result (self.new.pieces ≡ self.old.pieces) }
+        ensures listed { (kept : ℕ) → kept_count self.old.failing self.new.calls ≡ Some kept
+            → IsErr result × ((self.new.pieces ≡ self.old.pieces ++ take kept bytes.now ∷ [])
+            ⊎ (self.new.pieces ≡ self.old.pieces)) }
     {
         self.calls = self.calls.saturating_add(1);
-        let kept = self.kept();
+        let kept = self.kept_count();
         let piece = &bytes[..bytes.len().min(kept.unwrap_or(bytes.len()))];
-        if self.keep(piece).is_ok() && kept.is_none() {
+        if self.add_piece(piece).is_ok() && kept.is_none() {
             return Ok(());
         }
         self.count_fault();

@@ -1,23 +1,24 @@
-// A sink over standard output, at the trusted edge: it tells no pieces.
+//! A sink over standard output, at the trusted edge: its pieces are unknown.
+
 ghost use Rattle.std.specs.Prelude.{◌≡◌, ◌<◌, ◌≤◌, ℕ, None, IsErr, OnErr, is_ok};
 ghost use Rattle.outside.specs.Count.{Rose, faults_after};
 
-use crate::gathered::Gathered;
+use crate::buffered::Buffered;
 use crate::shelf::Failed;
 use crate::sink::Sink;
 use std::alloc::Global;
 use std::io;
 use std::marker::Model;
 
-/// Writes to standard output. Pieces that were put wait until they are 65,536 bytes together; [`StreamSink::flush`]
-/// writes the rest.
+/// Writes to standard output. Pieces that were put are buffered until they are 65,536 bytes together;
+/// [`StreamSink::flush`] writes the rest.
 ///
-/// After a fault nothing more is written, since it would stand behind a gap, and each call fails. Contracts see a sink
-/// as its count of faults.
+/// After a failed write nothing more is written, since it would stand after a gap, and each call fails. Contracts see a
+/// sink as its count of faults.
 #[derive(Drop)]
 pub struct StreamSink {
     rt: HostRuntime,
-    gathered: Gathered,
+    buffered: Buffered,
     faults: u64,
 }
 
@@ -34,7 +35,7 @@ impl StreamSink {
     {
         StreamSink {
             rt,
-            gathered: Gathered::new(alloc),
+            buffered: Buffered::new(alloc),
             faults: 0,
         }
     }
@@ -46,11 +47,11 @@ impl StreamSink {
         ensures later { 0 < self.old → IsErr result }
     {
         let mut output = io::writer(&self.rt);
-        let is_done = self.faults == 0 && self.gathered.write(&mut output).is_ok();
+        let is_done = self.faults == 0 && self.buffered.write(&mut output).is_ok();
         self.answer(is_done)
     }
 
-    // The answer of a call. A fault is counted.
+    /// The answer of a call that was done or failed. A failure is counted.
     fn answer(&mut self, is_done: bool) -> Result<(), Failed>
         ensures done { is_ok result ≡ is_done }
         ensures faults { self.new ≡ faults_after self.old result }
@@ -68,7 +69,7 @@ impl Sink for StreamSink {
 
     ghost faults = { λ faults. faults };
 
-    // At `Ok` the piece is written or waits.
+    /// Puts a piece. At `Ok` it is written or buffered.
     fn put(&mut self, bytes: &[u8]) -> Result<(), Failed>
         ensures count { self.old ≤ self.new }
         ensures cause { OnErr result (Rose self.old self.new) }
@@ -78,7 +79,7 @@ impl Sink for StreamSink {
         ensures later { 0 < self.old → IsErr result }
     {
         let mut output = io::writer(&self.rt);
-        let is_done = self.faults == 0 && self.gathered.add(bytes, &mut output).is_ok();
+        let is_done = self.faults == 0 && self.buffered.add(bytes, &mut output).is_ok();
         self.answer(is_done)
     }
 }

@@ -1,17 +1,26 @@
-// What no clause says: that calls succeed, and what the host's files and output do.
-use crate::gathered::Gathered;
+//! What no clause says: that calls succeed, and what the host's files and output do.
+
+use crate::buffered::Buffered;
 use crate::{Failed, FileShelf, MemShelf, MemSink, ReadFault, Shelf, Sink, StreamSink, read_all};
 use std::alloc::{AllocError, Global};
 use std::fs;
 use std::test::Fail;
 
+/// A file that a test writes.
 const PATH: &str = "outside-test-file";
 
-// More bytes than one piece of `read_all` has.
+/// A file with a name as long as that of `OTHER`.
+const FIRST: &str = "outside-test-first";
+
+/// A file with a name as long as that of `FIRST`.
+const OTHER: &str = "outside-test-other";
+
+/// More bytes than one piece of `read_all` has.
 const TWO_PIECES: u32 = 300_000;
 
+/// Bytes that repeat after a prime number of them.
 fn pattern(alloc: Global, len: u32) -> Result<Vec<u8>, AllocError> {
-    (0..len).map(|place| (place % 251) as u8).collect(alloc)
+    (0..len).map(|index| (index % 251) as u8).collect(alloc)
 }
 
 #[test]
@@ -75,7 +84,7 @@ fn reads_up_to_a_limit(rt: HostRuntime) -> Result<(), Fail> {
 }
 
 #[test]
-fn tells_a_fault_in_the_second_piece(rt: HostRuntime) -> Result<(), Fail> {
+fn fails_in_the_second_piece(rt: HostRuntime) -> Result<(), Fail> {
     let content = pattern(rt.alloc(), TWO_PIECES)?;
     let mut shelf = MemShelf::new(rt.alloc());
     shelf.add("core", &content)?;
@@ -95,8 +104,8 @@ fn reads_files(rt: HostRuntime) -> Result<(), Fail> {
     let whole = read_all(rt.alloc(), &mut shelf, PATH, u64::MAX)?;
     assert!(rt; whole.bytes.as_slice() == content.as_slice());
     assert!(rt; !whole.cut);
-    let front = read_all(rt.alloc(), &mut shelf, PATH, 70_000)?;
-    assert_eq!(rt; (front.bytes.len(), front.cut), (70_000, true));
+    let prefix = read_all(rt.alloc(), &mut shelf, PATH, 70_000)?;
+    assert_eq!(rt; (prefix.bytes.len(), prefix.cut), (70_000, true));
     fs::remove_file(&rt, PATH)?;
     let missing = read_all(rt.alloc(), &mut shelf, "no/such/file", 1);
     assert_eq!(rt; missing.err(), Some(ReadFault::Device));
@@ -106,19 +115,52 @@ fn reads_files(rt: HostRuntime) -> Result<(), Fail> {
 }
 
 #[test]
-fn gathers_pieces(rt: HostRuntime) -> Result<(), Fail> {
+fn reads_files_in_turn(rt: HostRuntime) -> Result<(), Fail> {
+    let content = pattern(rt.alloc(), TWO_PIECES)?;
+    let skipped = content.get(7..).unwrap_or(&[]);
+    fs::write(&rt, FIRST, content.as_slice())?;
+    fs::write(&rt, OTHER, skipped)?;
+    let mut shelf = FileShelf::new(rt);
+    let mut into = vec![in rt.alloc(); 0; 140_000]?;
+    // The host gives at most 65,536 bytes at once: offsets at the start, inside and at the end of such a part.
+    for (path, bytes, at) in [
+        (FIRST, content.as_slice(), 0),
+        (OTHER, skipped, 0),
+        (FIRST, content.as_slice(), 100),
+        (FIRST, content.as_slice(), 65_535),
+        (OTHER, skipped, 65_536),
+        (OTHER, skipped, 70_001),
+        (FIRST, content.as_slice(), 299_990),
+        (OTHER, skipped, 299_993),
+    ] {
+        let rest = bytes.get(at..).unwrap_or(&[]);
+        let count = rest.len().min(into.len());
+        assert_eq!(rt;
+            shelf.read_at(path, at as u64, &mut into),
+            Ok(count),
+            "{path} at {at}"
+        );
+        assert!(rt; into.get(..count) == rest.get(..count), "{path} at {at}");
+    }
+    fs::remove_file(&rt, FIRST)?;
+    fs::remove_file(&rt, OTHER)?;
+    Ok(())
+}
+
+#[test]
+fn buffers_pieces(rt: HostRuntime) -> Result<(), Fail> {
     let piece = pattern(rt.alloc(), 40_000)?;
     let mut written = Vec::new(rt.alloc());
-    let mut gathered = Gathered::new(rt.alloc());
+    let mut buffered = Buffered::new(rt.alloc());
     for (piece, len) in [
         (piece.as_slice(), 0),
         (piece.as_slice(), 80_000),
         (b"end", 80_000),
     ] {
-        assert_eq!(rt; gathered.add(piece, &mut written), Ok(()));
+        assert_eq!(rt; buffered.add(piece, &mut written), Ok(()));
         assert_eq!(rt; written.len(), len);
     }
-    assert_eq!(rt; gathered.write(&mut written), Ok(()));
+    assert_eq!(rt; buffered.write(&mut written), Ok(()));
     assert_eq!(rt; written.len(), 80_003);
     Ok(())
 }

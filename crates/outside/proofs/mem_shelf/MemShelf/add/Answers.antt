@@ -7,7 +7,7 @@ returns-in-Some-clause-faults c = λ n. grind (arith, text_keys)
 
 pub returns-in-Some-clause-others : goal.returns-in-Some-clause-others
 returns-in-Some-clause-others c = λ n ne. record {
-  told = grind (arith, text_keys);
+  known = grind (arith, text_keys);
   reach = grind (arith, text_keys);
   faults = grind (arith, text_keys);
 }
@@ -17,7 +17,7 @@ returns-clause-faults c = λ n. grind (arith, text_keys)
 
 pub returns-clause-others : goal.returns-clause-others
 returns-clause-others c = λ n ne. record {
-  told = grind (arith, text_keys);
+  known = grind (arith, text_keys);
   reach = grind (arith, text_keys);
   faults = grind (arith, text_keys);
 }

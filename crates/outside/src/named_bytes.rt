@@ -1,18 +1,19 @@
-// What a shelf in memory holds under a name.
+//! The bytes of one name of a shelf in memory.
+
 ghost use Rattle.std.specs.Prelude.{◌≡◌, ◌≤◌, ◌-◌, min, length, drop, vec_len};
 ghost use Rattle.outside.specs.Shelf.{ReadsFrom, raised_reach};
 
-/// The bytes of a name, how often reads of it failed, and up to where they gave bytes.
+/// The bytes of a name, how often reads of it failed, and the greatest offset up to which reads gave bytes.
 #[derive(Drop)]
-pub struct Held {
+pub struct NamedBytes {
     pub bytes: Vec<u8>,
     pub faults: u64,
     pub reach: u64,
     pub ghost within: { reach ≤ vec_len bytes },
 }
 
-impl Held {
-    /// Copies what fits and is there of the bytes from a place on, and says how many came.
+impl NamedBytes {
+    /// Copies the bytes from an offset on, as many as there are and fit, and gives their count.
     pub fn read(&mut self, at: u64, into: &mut [u8]) -> usize
         ensures reads { ReadsFrom self.old.bytes.items at result into.new }
         ensures count { result ≡ min (length into.old) (length self.old.bytes.items - at) }
@@ -29,6 +30,7 @@ impl Held {
     }
 }
 
+/// Copies bytes from an offset on, as many as there are and fit, and gives their count.
 fn copy_at(bytes: &[u8], at: u64, into: &mut [u8]) -> usize
     ensures reads { ReadsFrom bytes.now at result into.new }
     ensures count { result ≡ min (length into.old) (length bytes.now - at) }

@@ -1,45 +1,48 @@
-// Bytes that wait to be written, so that one call of the system writes many pieces.
+//! Buffered output: bytes that wait to be written, so that one call of the system writes many pieces.
+
 ghost use Rattle.std.specs.Prelude.{◌≡◌, ℕ, List, [], ◌++◌, IsOk, OnOk, OnErr};
 ghost use Rattle.std.specs.Io.KnownBytes.{Appends, append_known};
-ghost use Rattle.outside.specs.Writer.{AppendsFront};
+ghost use Rattle.outside.specs.Writer.{AppendsBytePrefix};
 
 use crate::shelf::Failed;
 use std::alloc::Global;
 use std::io::Write;
 use std::marker::Model;
 
-// The number of bytes that are enough for a write.
+/// The number of bytes that are enough for a write.
 const ENOUGH: usize = 65_536;
 
 /// Bytes that wait to be written, in the order in which they came.
 #[derive(Drop)]
-pub struct Gathered {
+pub struct Buffered {
     bytes: Vec<u8>,
 }
 
-impl Model for Gathered {
+impl Model for Buffered {
     ghost Value = { List ℕ };
 
-    ghost view = { λ gathered. gathered.bytes.items };
+    ghost view = { λ buffered. buffered.bytes.items };
 }
 
-impl Gathered {
+impl Buffered {
     /// No bytes.
-    pub fn new(alloc: Global) -> Gathered
+    pub fn new(alloc: Global) -> Buffered
         ensures { result ≡ [] }
     {
-        Gathered {
+        Buffered {
             bytes: Vec::new(alloc),
         }
     }
 
-    /// Adds a piece. It waits, or all is written: where the bytes are 65,536 or more, and where there is no memory to
-    /// keep the piece. After an error nothing more may be written.
-    #[tactic(auto, using(crate::proofs::Writer::front_behind))]
+    /// Adds a piece to the buffer. All is written where the buffer has 65,536 bytes or more, and where the memory for
+    /// the piece runs out. After a failed write nothing more may be written.
+    #[tactic(auto, using(crate::proofs::Writer::prefix_after))]
     pub fn add<W: Write>(&mut self, piece: &[u8], to: &mut W) -> Result<(), Failed>
-        // What is written and what waits behind it grow by the piece.
-        ensures ok { OnOk result (Appends (append_known (W.contents to.old) self.old) (append_known (W.contents to.new) self.new) piece.now) }
-        ensures err { OnErr result (AppendsFront (W.contents to.old) (W.contents to.new) (self.old ++ piece.now)) }
+        // What is written, and after it the buffer, grow by the piece.
+        ensures ok { OnOk result (Appends (append_known (W.contents to.old) self.old)
+            (append_known (W.contents to.new) self.new) piece.now) }
+        ensures err { OnErr result (AppendsBytePrefix (W.contents to.old) (W.contents to.new)
+            (self.old ++ piece.now)) }
     {
         if self.bytes.extend_from_slice(piece).is_err() {
             self.write(to)?;
@@ -51,13 +54,14 @@ impl Gathered {
         self.write(to)
     }
 
-    /// Writes all that waits. After an error nothing more may be written.
+    /// Writes the buffer. After a failed write nothing more may be written.
     pub fn write<W: Write>(&mut self, to: &mut W) -> Result<(), Failed>
-        // Where nothing waits, nothing fails.
+        // An empty buffer is written without fail.
         ensures none { self.old ≡ [] → IsOk result }
         ensures empty { OnOk result (self.new ≡ []) }
         ensures ok { OnOk result (Appends (W.contents to.old) (W.contents to.new) self.old) }
-        ensures err { OnErr result (AppendsFront (W.contents to.old) (W.contents to.new) self.old) }
+        ensures err { OnErr result (AppendsBytePrefix (W.contents to.old) (W.contents to.new)
+            self.old) }
     {
         write_bytes(self.bytes.as_slice(), to)?;
         self.bytes.clear();
@@ -65,12 +69,13 @@ impl Gathered {
     }
 }
 
-// An output that takes nothing has failed: asking again could go on for ever.
+/// Writes all of these bytes. An output that takes none of them has failed: asking again could go on for ever.
 #[tactic(auto, using(crate::proofs::Writer::appends_next))]
 fn write_bytes<W: Write>(bytes: &[u8], to: &mut W) -> Result<(), Failed>
     ensures none { bytes.now ≡ [] → IsOk result }
     ensures ok { OnOk result (Appends (W.contents to.old) (W.contents to.new) bytes.now) }
-    ensures err { OnErr result (AppendsFront (W.contents to.old) (W.contents to.new) bytes.now) }
+    ensures err { OnErr result (AppendsBytePrefix (W.contents to.old) (W.contents to.new)
+        bytes.now) }
 {
     let mut done = 0;
     while done < bytes.len() {
