@@ -1,8 +1,9 @@
-pub mod AnswerTexts
-pub mod Completing
-pub mod Endings
-pub mod Going
-pub mod Reading
-pub mod Readings
-pub mod Rests
-pub mod Saying
+pub mod Completeness
+pub mod FileReading
+pub mod Finishing
+pub mod HandledLines
+pub mod Jobs
+pub mod LineEnds
+pub mod LogReading
+pub mod Outcomes
+pub mod PutPieces

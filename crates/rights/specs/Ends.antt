@@ -1,47 +1,58 @@
--- How much of an outcome a sink was given, by how a run ends.
-use Rattle.std.specs.Prelude.{◌≡◌, ℕ, List, ◌∷◌, ◌++◌, [], Option, None, Some, Result, Ok, Err}
-use Rattle.outside.specs.Sink.{PutsFront}
-use Rattle.history_model.specs.Outcome.{Outcome}
-use Rattle.history_model.specs.declared.statuses.Status.{Status}
-use Rattle.history_model.specs.declared.statuses.Status.TheVariants.{ReadFailed, WriteFailed, OutOfMemory}
+-- How much of a job a sink was given, by how a run ends.
+use Rattle.std.specs.Prelude.{◌≡◌, ℕ, List, ◌∷◌, ◌++◌, Option, None, Some}
+use Rattle.outside.specs.Sink.{PutsBytePrefix}
+use Rattle.rights.specs.Jobs.{Job, IsOutcomeOf, HasReached}
+use Rattle.rights.specs.Outcome.{Outcome}
+use Rattle.rights.specs.declared.statuses.Status.{Status}
+use Rattle.rights.specs.declared.statuses.Status.TheVariants.{ReadFailed, WriteFailed, OutOfMemory}
 
--- these lines were put, each as one piece; a sink that doesn't tell its pieces never does
+-- the pieces of a sink once these lines are put, each as one piece; where a sink's pieces aren't known, they never are
+abbrev pub after_lines : Option (List (List ℕ)) → List (List ℕ) → Option (List (List ℕ))
+after_lines None lines = None
+after_lines (Some before) lines = Some (before ++ lines)
+
+-- these lines were put
 abbrev pub Adds : Option (List (List ℕ)) → Option (List (List ℕ)) → List (List ℕ) → Type 0
-Adds None now lines = now ≡ None
-Adds (Some before) now lines = now ≡ Some (before ++ lines)
+Adds before now lines = now ≡ after_lines before lines
 
--- the lines before one were put, and of that one a front at most
-pub record Cuts (before now lines : List (List ℕ)) : Type 0 where
+-- a prefix of these lines was put
+pub record AddsPrefix (before now : Option (List (List ℕ))) (lines : List (List ℕ)) : Type 0 where
+  pub whole : List (List ℕ)
+  pub more : List (List ℕ)
+  pub lines_are : lines ≡ whole ++ more
+  pub adds : Adds before now whole
+
+-- the lines before one were put, and of that one a prefix of its bytes at most
+pub record Truncates (before now lines : List (List ℕ)) : Type 0 where
   pub whole : List (List ℕ)
   pub line : List ℕ
   pub more : List (List ℕ)
   pub lines_are : lines ≡ whole ++ line ∷ more
-  pub puts : PutsFront (before ++ whole) now line
+  pub puts : PutsBytePrefix (before ++ whole) now line
 
-abbrev pub AddsCut : Option (List (List ℕ)) → Option (List (List ℕ)) → List (List ℕ) → Type 0
-AddsCut None now lines = now ≡ None
-AddsCut (Some before) now lines = (pieces : List (List ℕ)) × (now ≡ Some pieces) × Cuts before pieces lines
+abbrev pub AddsTruncated : Option (List (List ℕ)) → Option (List (List ℕ)) → List (List ℕ) → Type 0
+AddsTruncated None now lines = now ≡ None
+AddsTruncated (Some before) now lines = (pieces : List (List ℕ)) × (now ≡ Some pieces) × Truncates before pieces lines
 
--- whole leading lines were put
-pub record AddsLeading (before now : Option (List (List ℕ))) (lines : List (List ℕ)) : Type 0 where
-  pub front : List (List ℕ)
-  pub more : List (List ℕ)
-  pub lines_are : lines ≡ front ++ more
-  pub adds : Adds before now front
+-- the outcome of a job that ends so was written
+pub record AddsOutcome (job : Job) (before now : Option (List (List ℕ))) (status : Status) : Type 0 where
+  pub outcome : Outcome
+  pub is : IsOutcomeOf job outcome
+  pub status_is : outcome.status ≡ status
+  pub adds : Adds before now outcome.lines
 
--- An end that is no fault is that of an outcome whose lines were all put. Where a put failed or memory was wanted,
--- what was put is the front of every such outcome. A read fails before the first line is handled.
-abbrev pub Ends : (Outcome → Type 0) → Option (List (List ℕ)) → Option (List (List ℕ)) → Status → Type 0
-Ends Is before now ReadFailed = ⊥
-Ends Is before now WriteFailed = (outcome : Outcome) → Is outcome → AddsCut before now outcome.lines
-Ends Is before now OutOfMemory = (outcome : Outcome) → Is outcome → AddsLeading before now outcome.lines
-Ends Is before now status = (outcome : Outcome) × Is outcome × (outcome.status ≡ status) × Adds before now outcome.lines
+-- the lines of what was handled were written, and of those that come next a part
+pub record StopsWithin (job : Job) (AddsNext : Option (List (List ℕ)) → List (List ℕ) → Type 0) (before : Option (List (List ℕ))) : Type 0 where
+  pub lines : List (List ℕ)
+  pub next : List (List ℕ)
+  pub reaches : HasReached job lines next
+  pub adds : AddsNext (after_lines before lines) next
 
--- an outcome of one line
-abbrev pub one_line : List ℕ → Status → Outcome
-one_line line status = record { lines = line ∷ []; status = status }
-
--- the status where a line was to be put
-abbrev pub after_put : {E : Type 0} → Result (Unit {0}) E → Status → Status
-after_put (Ok done) status = status
-after_put (Err error) status = WriteFailed
+-- An end that is no fault is that of the outcome, which was written. Where a put failed, the lines of what was handled
+-- were put, and of the next step's a proper prefix with at most one truncated line; where memory ran out, a prefix. A
+-- read fails before the first line is handled.
+abbrev pub Ends : Job → Option (List (List ℕ)) → Option (List (List ℕ)) → Status → Type 0
+Ends job before now ReadFailed = ⊥
+Ends job before now WriteFailed = StopsWithin job (λ handled next. AddsTruncated handled now next) before
+Ends job before now OutOfMemory = StopsWithin job (λ handled next. AddsPrefix handled now next) before
+Ends job before now status = AddsOutcome job before now status

@@ -1,8 +1,9 @@
-pub mod AnswerTexts
-pub mod CoreTexts
+pub mod Arguments
 pub mod Ends
-pub mod FixedTexts
-pub mod Forms
-pub mod Partway
-pub mod Putting
+pub mod HandledLines
+pub mod Jobs
+pub mod Outcome
+pub mod Reads
 pub mod Run
+pub mod Statuses
+pub mod Stopping

@@ -2,100 +2,14 @@
 
 use super::*;
 use outside::{MemShelf, MemSink};
+use std::alloc::{AllocError, Global};
 use std::test::Fail;
+use test_support::cores::{
+    BIG, CR3, CR4, MEMORY, MEMORY_SIZE, example_core, example_core_with, foreign_core,
+};
+use test_support::fields::Field;
 
-const CORE_LEN: usize = 65_832;
-
-/// Where the core's segment begins, which is memory from 0 on.
-const MEMORY: usize = 296;
-
-const MEMORY_LEN: usize = 152;
-
-const LARGEST_PAGES: usize = 204;
-
-const CR3: usize = 248;
-
-const CR4: usize = 256;
-
-fn put(bytes: &mut [u8], place: usize, number: &[u8]) {
-    if let Some(behind) = bytes.get_mut(place..)
-        && let Some(field) = behind.get_mut(..number.len())
-    {
-        field.copy_from_slice(number);
-    }
-}
-
-// The example core: its notes state a machine of 40 bits and processor 0, and its tables map the page 0x0 to 0x5000 and
-// the page 0x1000 to 0x6000.
-fn example_core(alloc: Global) -> Result<Vec<u8>, AllocError> {
-    let mut core = vec![in alloc; 0u8; CORE_LEN]?;
-    put(&mut core, 0, b"\x7fELF\x02\x01");
-    put(&mut core, 16, &[4, 0, 62, 0]);
-    put(&mut core, 32, &[64]);
-    put(&mut core, 54, &[56, 0, 2]);
-    put(&mut core, 64, &[4, 0, 0, 0, 0, 0, 0, 0, 176]);
-    put(&mut core, 96, &[120]);
-    put(&mut core, 120, &[1, 0, 0, 0, 0, 0, 0, 0, 40, 1]);
-    put(&mut core, 152, &[0, 0, 1]);
-    put(&mut core, 176, b"\x0a\0\0\0\x08\0\0\0\x01\0\0\0X86RIGHTS");
-    put(&mut core, 200, &[40, 0, 0, 0, 1]);
-    put(&mut core, 208, b"\x0a\0\0\0\x40\0\0\0\x02\0\0\0X86RIGHTS");
-    put(&mut core, 240, &0x8001_0001u64.to_le_bytes());
-    put(&mut core, CR3, &0x1000u64.to_le_bytes());
-    put(&mut core, 256, &0x20u64.to_le_bytes());
-    put(&mut core, 264, &0xd00u64.to_le_bytes());
-    put(&mut core, 272, &[2]);
-    for (at, entry) in [
-        (0x1000, 0x2007),
-        (0x2000, 0x3007),
-        (0x3000, 0x4007),
-        (0x4000, 0x5007),
-        (0x4008, 0x6005u64),
-    ] {
-        put_entry(&mut core, at, entry);
-    }
-    Ok(core)
-}
-
-fn put_entry(core: &mut [u8], at: usize, entry: u64) {
-    put(core, MEMORY.saturating_add(at), &entry.to_le_bytes());
-}
-
-// A core of four program headers: foreign notes, the example's memory, memory that overlaps it, and memory without bytes.
-fn foreign_core(alloc: Global) -> Result<Vec<u8>, AllocError> {
-    let example = example_core(alloc)?;
-    let memory = example.get(MEMORY..).unwrap_or(&[]);
-    let mut core = vec![in alloc; 0u8; 131_416]?;
-    put(&mut core, 0, b"\x7fELF\x02\x01");
-    put(&mut core, 16, &[4, 0, 62, 0]);
-    put(&mut core, 32, &[64]);
-    put(&mut core, 54, &[56, 0, 4]);
-    put(&mut core, 64, &[4, 0, 0, 0, 0, 0, 0, 0, 32, 1]);
-    put(&mut core, 96, &[56]);
-    put(&mut core, 120, &[1, 0, 0, 0, 0, 0, 0, 0, 88, 1]);
-    put(&mut core, 152, &[0, 0, 1]);
-    put(&mut core, 176, &[1, 0, 0, 0, 0, 0, 0, 0, 88, 1, 1]);
-    put(&mut core, 200, &[0, 128]);
-    put(&mut core, 208, &[0, 0, 1]);
-    put(
-        &mut core,
-        232,
-        &[
-            1, 0, 0, 0, 0, 0, 0, 0, 255, 255, 255, 255, 255, 255, 255, 255,
-        ],
-    );
-    put(&mut core, 256, &[0, 0, 16]);
-    put(&mut core, 272, &[0, 16]);
-    put(&mut core, 288, b"\x05\0\0\0\x08\0\0\0\x01\0\0\0CORE");
-    put(&mut core, 316, b"\x05\0\0\0\x08\0\0\0\0\0\0\0QEMU");
-    put(&mut core, 344, memory);
-    for byte in core.iter_mut().skip(65_880) {
-        *byte = 0xff;
-    }
-    Ok(core)
-}
-
-// What a run over a core and a log wrote, and its status.
+/// What a run over a core and a log wrote, and its status.
 fn outcome(alloc: Global, core: &[u8], log: &[u8]) -> Result<(Vec<u8>, u8), AllocError> {
     let mut shelf = MemShelf::new(alloc);
     let mut out = MemSink::new(alloc);
@@ -161,86 +75,82 @@ fn a_line_of_more_than_8300_bytes_is_refused(rt: HostRuntime) -> Result<(), Fail
     Ok(())
 }
 
-/// A number that stands at a place of the example core.
-type Change = (usize, u64);
-
-fn changed_core(alloc: Global, changes: &[Change]) -> Result<Vec<u8>, AllocError> {
-    let mut core = example_core(alloc)?;
-    for (place, number) in changes {
-        put(&mut core, *place, &number.to_le_bytes());
-    }
-    Ok(core)
-}
-
 #[test]
 fn the_walk_reads_the_tables_of_the_core(rt: HostRuntime) -> Result<(), Fail> {
     let ask = b"ask 0 sr 0x1234\n".as_slice();
-    let cases: [(&[Change], &[u8], &[u8], u8); 12] = [
-        (&[(CR3, 0x10000)], ask, b"denied unknown 4\n", 0),
+    let cases: [(&[Field], &[u8], &[u8], u8); 12] = [
+        (&[(CR3, 8, 0x10000)], ask, b"denied unknown 4\n", 0),
         // Of the entry at 0x4000 the first four bytes are known.
         (
-            &[(MEMORY_LEN, 0x4004)],
+            &[(MEMORY_SIZE, 8, 0x4004)],
             b"ask 0 sr 0x0\n",
             b"denied unknown 1\n",
             0,
         ),
         // On both sides of the addresses that aren't canonical.
         (
-            &[(MEMORY + 0x17f8, 0x2007), (MEMORY + 0x1800, 0x2007)],
-            b"ask 0 sr 0x7f8000001fff\nask 0 sr 0x7fffffffffff\nask 0 sr 0x800000000000\nask 0 sr 0xffff7fffffffffff\nask 0 sr 0xffff800000000000\n",
+            &[(MEMORY + 0x17f8, 8, 0x2007), (MEMORY + 0x1800, 8, 0x2007)],
+            b"ask 0 sr 0x7f8000001fff\nask 0 sr 0x7fffffffffff\nask 0 sr 0x800000000000\n\
+              ask 0 sr 0xffff7fffffffffff\nask 0 sr 0xffff800000000000\n",
             b"granted 0x6fff\ndenied absent 3\ndenied not-canonical\ndenied not-canonical\ngranted 0x5000\n",
             0,
         ),
         (
-            &[(MEMORY + 0x3000, 0x0040_20e7)],
+            &[(MEMORY + 0x3000, 8, 0x0040_20e7)],
             ask,
             b"denied reserved 2\n",
             0,
         ),
         (
-            &[(MEMORY + 0x3000, 0x0040_20e6)],
+            &[(MEMORY + 0x3000, 8, 0x0040_20e6)],
             ask,
             b"denied absent 2\n",
             0,
         ),
         (
-            &[(MEMORY + 0x3000, 0x0040_10e7)],
+            &[(MEMORY + 0x3000, 8, 0x0040_10e7)],
             ask,
             b"granted 0x401234\n",
             0,
         ),
         (
-            &[(MEMORY + 0x3000, 0x0040_00e7)],
+            &[(MEMORY + 0x3000, 8, 0x0040_00e7)],
             b"ask 0 sr 0x0\n",
             b"granted 0x400000\n",
             0,
         ),
         (
-            &[(MEMORY + 0x2000, 0x4000_00e7)],
+            &[(MEMORY + 0x2000, 8, 0x4000_00e7)],
             ask,
             b"granted 0x40001234\n",
             0,
         ),
         (
-            &[
-                (MEMORY + 0x2000, 0x4000_00e7),
-                (LARGEST_PAGES, 0x0000_000a_0000_0000),
-            ],
+            &[(MEMORY + 0x2000, 8, 0x4000_00e7), (BIG, 4, 0)],
             ask,
             b"denied reserved 3\n",
             0,
         ),
         (
-            &[(CR3, 0x7000), (CR4, 0x1020), (MEMORY + 0x7000, 0x1007)],
+            &[
+                (CR3, 8, 0x7000),
+                (CR4, 8, 0x1020),
+                (MEMORY + 0x7000, 8, 0x1007),
+            ],
             b"ask 0 sr 0x800000000000\nask 0 sr 0x1234\n",
             b"denied absent 4\ngranted 0x6234\n",
             0,
         ),
-        (&[(CR4, 0x0020_0020)], ask, b"denied smap\n", 0),
-        (&[(CR3, 0x4000_0000_0000_1000)], ask, b"granted 0x6234\n", 0),
+        (&[(CR4, 8, 0x0020_0020)], ask, b"denied smap\n", 0),
+        (
+            &[(CR3, 8, 0x4000_0000_0000_1000)],
+            ask,
+            b"granted 0x6234\n",
+            0,
+        ),
     ];
-    for (changes, log, text, status) in cases {
-        let core = changed_core(rt.alloc(), changes)?;
+    for (fields, log, text, status) in cases {
+        let core = example_core_with(rt.alloc(), fields)?;
         let (written, code) = outcome(rt.alloc(), &core, log)?;
         assert_eq!(rt; written.as_slice(), text);
         assert_eq!(rt; code, status);
@@ -250,12 +160,18 @@ fn the_walk_reads_the_tables_of_the_core(rt: HostRuntime) -> Result<(), Fail> {
 
 #[test]
 fn registers_change_what_is_granted(rt: HostRuntime) -> Result<(), Fail> {
-    let five_levels: &[Change] = &[(CR3, 0x7000), (CR4, 0x1020), (MEMORY + 0x7000, 0x1007)];
-    let cases: [(&[Change], &[u8], &[u8], u8); 5] = [
+    let five_levels: &[Field] = &[
+        (CR3, 8, 0x7000),
+        (CR4, 8, 0x1020),
+        (MEMORY + 0x7000, 8, 0x1007),
+    ];
+    let cases: [(&[Field], &[u8], &[u8], u8); 5] = [
         // Masking of user pointers, from bit 48 and from bit 57 on; fetches aren't masked.
         (
             &[],
-            b"set 0 cr3 0x4000000000001000\nask 0 ur 0x7fff000000000000\nask 0 ux 0x7fff000000000000\nset 0 cr3 0x2000000000001000\nask 0 ur 0x4000000000000\n",
+            b"set 0 cr3 0x4000000000001000\nask 0 ur 0x7fff000000000000\n\
+              ask 0 ux 0x7fff000000000000\nset 0 cr3 0x2000000000001000\n\
+              ask 0 ur 0x4000000000000\n",
             b"granted 0x5000\ndenied not-canonical\ndenied not-canonical\n",
             0,
         ),
@@ -268,7 +184,8 @@ fn registers_change_what_is_granted(rt: HostRuntime) -> Result<(), Fail> {
         ),
         (
             five_levels,
-            b"ask 0 ur 0x800000000000\nset 0 cr3 0x4000000000007000\nask 0 ur 0x800000000000\nask 0 ux 0x800000000000\n",
+            b"ask 0 ur 0x800000000000\nset 0 cr3 0x4000000000007000\nask 0 ur 0x800000000000\n\
+              ask 0 ux 0x800000000000\n",
             b"denied absent 4\ndenied not-canonical\ndenied absent 4\n",
             0,
         ),
@@ -285,8 +202,8 @@ fn registers_change_what_is_granted(rt: HostRuntime) -> Result<(), Fail> {
             4,
         ),
     ];
-    for (changes, log, text, status) in cases {
-        let core = changed_core(rt.alloc(), changes)?;
+    for (fields, log, text, status) in cases {
+        let core = example_core_with(rt.alloc(), fields)?;
         let (written, code) = outcome(rt.alloc(), &core, log)?;
         assert_eq!(rt; written.as_slice(), text);
         assert_eq!(rt; code, status);
@@ -308,8 +225,7 @@ fn a_core_is_refused_at_its_first_fault(rt: HostRuntime) -> Result<(), Fail> {
         assert_eq!(rt; written.as_slice(), text);
         assert_eq!(rt; code, 3);
     }
-    let mut core = core;
-    put(&mut core, CR3, &0x0100_0000_1000u64.to_le_bytes());
+    let core = example_core_with(rt.alloc(), &[(CR3, 8, 0x0100_0000_1000)])?;
     let (written, code) = outcome(rt.alloc(), &core, b"")?;
     assert_eq!(rt;
         written.as_slice(),
@@ -368,7 +284,7 @@ fn faults_end_a_run(rt: HostRuntime) -> Result<(), Fail> {
     let mut shelf = MemShelf::new(alloc);
     let mut out = MemSink::new(alloc);
 
-    // No file has a name that isn't held.
+    // The shelf has no file of the core, and then none of the log.
     assert_eq!(rt; run_uncounted(alloc, &words, &mut shelf, &mut out), 5);
     shelf.add("core", &core)?;
     assert_eq!(rt; run_uncounted(alloc, &words, &mut shelf, &mut out), 5);
