@@ -14,8 +14,8 @@ gcc -O2 -Wall -Wextra -o "$work/rights" "$bench/rights.c"
 
 git init -q "$work"
 mkdir -p "$work/crates/many_rights/src"
-cp -r "$top"/crates/{paging_model,proc_regs,access_rights} "$work/crates"
-grep -E '^(paging_model|proc_regs|access_rights):' "$top/crates.txt" >"$work/crates.txt"
+cp -r "$top"/crates/{paging_model,test_support,proc_regs,access_rights} "$work/crates"
+grep -E '^(paging_model|test_support|proc_regs|access_rights):' "$top/crates.txt" >"$work/crates.txt"
 echo 'many_rights: access_rights paging_model' >>"$work/crates.txt"
 cat >"$work/crates/many_rights/src/main.rt" <<'SOURCE'
 //! Takes the rights of many pages, and prints the sum of their numbers.

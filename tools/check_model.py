@@ -3,8 +3,11 @@
 
 Each section of docs/MODEL.md names definitions and links their files, and its index leads back. This script sees that
 each name that a section gives stands in a file that the section links, that each link is one, that the index has every
-file of definitions with every public name in it, and that the laws are told that are proved. With --write it writes the
-index anew.
+file of definitions with every public name in it, and that the page's laws are those that are proved. With --write it
+writes the index anew.
+
+The files of definitions are those of the model's two crates, and of three others those that say what a log is, what is
+written for it, and how a run ends.
 """
 
 import re
@@ -13,7 +16,14 @@ from pathlib import Path
 
 ROOT = Path(__file__).resolve().parent.parent
 PAGE = ROOT / "docs" / "MODEL.md"
-CRATES = ("paging_model", "history_model")
+# The crates with definitions of the model, and which files: all of them, where none is named.
+CRATES = {
+    "paging_model": (),
+    "history_model": (),
+    "edit_log": ("Log", "LogLine", "Numbers"),
+    "rights_report": (),
+    "rights": ("HandledLines", "Outcome", "Statuses"),
+}
 HEADING = "## Where each definition stands"
 DEFINED = re.compile(r"^ *(?:(?:abbrev|unfoldable) pub|pub (?:data|record|unfoldable|abbrev)) (\w+)", re.M)
 LINK = re.compile(r"\[\w+\]\(\.\./(crates/\w+/specs/\w+\.antt)\)")
@@ -21,9 +31,13 @@ LINK = re.compile(r"\[\w+\]\(\.\./(crates/\w+/specs/\w+\.antt)\)")
 
 def definitions():
     """The public names of each file of definitions, but for worked cases."""
-    for crate in CRATES:
-        for path in sorted((ROOT / "crates" / crate / "specs").glob("*.antt")):
-            if path.stem != "Lib" and not path.stem.startswith("Worked"):
+    for crate, stems in CRATES.items():
+        specs = ROOT / "crates" / crate / "specs"
+        for stem in stems:
+            if not (specs / f"{stem}.antt").exists():
+                raise SystemExit(f"{crate}: there is no {stem} among its definitions")
+        for path in sorted(specs.glob("*.antt")):
+            if path.stem in stems or not stems and path.stem != "Lib" and not path.stem.startswith("Worked"):
                 yield path, DEFINED.findall(path.read_text(encoding="utf-8"))
 
 
@@ -51,37 +65,37 @@ def index(text):
         if link not in place:
             raise SystemExit(f"{link}: no section of docs/MODEL.md links it")
         heading = place[link]
-        told = ", ".join(f"`{name}`" for name in names)
-        lines.append(f"| [{path.stem}](../{link}) | [{heading}](#{anchor(heading)}) | {told} |")
+        listed = ", ".join(f"`{name}`" for name in names)
+        lines.append(f"| [{path.stem}](../{link}) | [{heading}](#{anchor(heading)}) | {listed} |")
     return "\n".join(lines) + "\n"
 
 
 def check_names(text):
-    """Each name that a section gives behind "Definitions" stands in a file that it links there."""
+    """Each name that a section gives after "Definitions" stands in a file that it links there."""
     known = {path.relative_to(ROOT).as_posix(): names for path, names in definitions()}
     for heading, body in sections(text):
-        told = body.partition("*Definitions*")[2]
-        if not told:
+        given = body.partition("*Definitions*")[2]
+        if not given:
             raise SystemExit(f"{heading}: the section names no definitions")
-        names = {name for link in LINK.findall(told) for name in known.get(link, ())}
-        for link in LINK.findall(told):
+        names = {name for link in LINK.findall(given) for name in known.get(link, ())}
+        for link in LINK.findall(given):
             if link not in known:
                 raise SystemExit(f"{heading}: {link} isn't a file of definitions")
-        for name in re.findall(r"`(\w+)`", told):
+        for name in re.findall(r"`(\w+)`", given):
             if name not in names:
                 raise SystemExit(f"{heading}: {name} isn't defined in a file that the section links")
 
 
 def check_laws(text):
-    """The functions of the two crates of laws are those of the page's tables of laws."""
+    """The functions of the two crates of laws, and the program's laws, are those of the page's tables of laws."""
     proved = set()
-    for crate in ("paging_laws", "history_laws"):
-        for path in (ROOT / "crates" / crate / "src").glob("*.rt"):
+    for pattern in ("paging_laws/src/*.rt", "history_laws/src/*.rt", "rights/src/laws.rt"):
+        for path in (ROOT / "crates").glob(pattern):
             proved |= set(re.findall(r"^pub fn (\w+)", path.read_text(encoding="utf-8"), re.M))
     part = text.split("\n## Laws\n")[1].split("\n## ")[0]
-    told = {name for row in re.findall(r"^\|.*\|(.*)\|$", part, re.M) for name in re.findall(r"`(\w+)`", row)}
-    for name in sorted(told ^ proved):
-        raise SystemExit(f"{name}: " + ("it is told as a law and isn't one" if name in told else "the page doesn't tell this law"))
+    listed = {name for row in re.findall(r"^\|.*\|(.*)\|$", part, re.M) for name in re.findall(r"`(\w+)`", row)}
+    for name in sorted(listed ^ proved):
+        raise SystemExit(f"{name}: " + ("it is listed as a law and isn't one" if name in listed else "the page doesn't list this law"))
 
 
 def main():

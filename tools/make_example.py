@@ -10,7 +10,7 @@ page tables of four levels that map two pages:
     linear address 0x0      to physical address 0x5000, with writes
     linear address 0x1000   to physical address 0x6000, without writes
 
-Without an option the segment has 65,536 bytes, and the file 65,832. A greater COUNT makes the segment longer: behind
+Without an option the segment has 65,536 bytes, and the file 65,832. A greater COUNT makes the segment longer: after
 its first 65,536 bytes stand the bytes 0 to 255 again and again. They are no part of the page tables.
 """
 import argparse
