@@ -1,1 +1,11 @@
 pub mod HeldEntries
+pub mod FirstFindings
+pub mod HeldPages
+pub mod JustifiedPages
+pub mod KnownTables
+pub mod ListedThings
+pub mod MomentsUpTo
+pub mod ReachedTables
+pub mod SmallUses
+pub mod EmptyRoots
+pub mod UnknownTables

@@ -1,14 +1,12 @@
 -- How far back what a processor may hold reaches, and processors for which nothing has changed since. Our own words, over
 -- SDM 3A, "Operations that Invalidate TLBs and Paging-Structure Caches".
-use Rattle.std.specs.Prelude.{◌≡◌, ℕ, ◌+◌, ◌*◌, ◌≤◌, Bool, true, false, if◌then◌else◌, List, [], ◌∷◌, length, Option, Some, None, option_map, nat_lt, min}
-use Rattle.paging_model.specs.Counting.{Count, IsIn}
+use Rattle.std.specs.Prelude.{◌≡◌, ℕ, ◌+◌, ◌≤◌, Bool, true, false, if◌then◌else◌, List, [], ◌∷◌, length, Option, Some, None, option_map, nat_lt, min}
+use Rattle.paging_model.specs.Counting.{IsIn}
 use Rattle.paging_model.specs.Registers.{root_of}
-use Rattle.paging_model.specs.TableUses.{IsUse}
 use Rattle.paging_model.specs.declared.registers.Processor.{Processor}
 use Rattle.paging_model.specs.declared.registers.Regs.{Regs}
 use Rattle.paging_model.specs.declared.spaces.SpaceKey.{SpaceKey}
-use Rattle.paging_model.specs.declared.spaces.TableUse.{TableUse}
-use Rattle.history_model.specs.History.{History, begun, next, time, memory, machine, processors, regs, visited_pcids, last_root, page_of, with_number}
+use Rattle.history_model.specs.History.{History, begun, next, time, machine, processors, regs, visited_pcids, last_root, page_of, with_number}
 use Rattle.history_model.specs.Invalidations.{loses_all}
 use Rattle.history_model.specs.KeptSpaces.{slots_written, space_of}
 use Rattle.history_model.specs.declared.events.Event.{Event}
@@ -87,18 +85,3 @@ pub record IsStill (history : History) (cpu : ℕ) : Type 0 where
   pub same_root : (moment : History) (c : ℕ) → IsUpTo moment history
       → horizon history cpu ≤ time moment → IsIn c (visited_pcids moment cpu)
       → last_root moment cpu c ≡ option_map (λ known. root_of known (machine history)) (regs history cpu)
-
--- a level and a frame at which some table of a space is used
-pub record IsTable (history : History) (key : SpaceKey) (table : ℕ × ℕ) : Type 0 where
-  pub at : TableUse
-  pub use_is : IsUse (memory history) key.settings key.root at
-  pub level : at.level ≡ table.0
-  pub frame : at.frame ≡ table.1
-
--- the steps in which a still processor is audited
-pub record AuditsWithin (history : History) (cpu steps : ℕ) : Type 0 where
-  pub key : SpaceKey
-  pub is_space : space history cpu ≡ Some key
-  pub tables : ℕ
-  pub are_tables : Count (IsTable history key) tables
-  pub bound : steps ≡ 1024 * (tables + length (visited_pcids history cpu) * length (visited_pcids history cpu))

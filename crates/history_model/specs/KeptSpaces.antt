@@ -1,8 +1,7 @@
 -- The spaces that are kept after they were listed, and what a write touches of one. Our own words, over SDM 3A, "4-Level
 -- Paging and 5-Level Paging".
-use Rattle.std.specs.Prelude.{◌≡◌, ℕ, ◌+◌, ◌-◌, ◌*◌, ◌/◌, ◌%◌, ◌<◌, ◌==◌, ◌&&◌, ◌⊎◌, Bool, not, if◌then◌else◌, List, [], ◌∷◌, take, Option, Some, None}
+use Rattle.std.specs.Prelude.{◌≡◌, ℕ, ◌+◌, ◌-◌, ◌/◌, ◌%◌, ◌<◌, ◌==◌, ◌&&◌, ◌⊎◌, Bool, not, if◌then◌else◌, List, [], ◌∷◌, take, Option, Some, None}
 use Rattle.paging_model.specs.BitRanges.{differs}
-use Rattle.paging_model.specs.Counting.{Count}
 use Rattle.paging_model.specs.Memory.{Memory}
 use Rattle.paging_model.specs.Registers.{root_of, settings_of}
 use Rattle.paging_model.specs.TableUses.{Reaches, IsUse, IsTooLarge, IsWithinLimits}
@@ -100,17 +99,8 @@ pub record IsTouched (memory : Memory) (key : SpaceKey) (at n : ℕ) (table : Ta
   pub reached : Reaches memory key.settings key.root level table.prefix frame bits
   pub written : IsWrittenSlot at n (entry_address level table.prefix frame)
 
--- a use of the written frame, and a slot of it that is written
-pub record IsOwn (memory : Memory) (key : SpaceKey) (at n : ℕ) (own : TableUse × ℕ) : Type 0 where
-  pub use_is : IsUse memory key.settings key.root own.0
-  pub frame : own.0.frame ≡ page_of at
-  pub slot : IsWrittenSlot at n own.1
-
--- the steps in which a kept space is updated after a write: each touched table is read again, and each written entry of
--- each use of the written frame
-pub record MendsWithin (memory : Memory) (key : SpaceKey) (at n steps : ℕ) : Type 0 where
-  pub touched : ℕ
-  pub own : ℕ
-  pub are_touched : Count (IsTouched memory key at n) touched
-  pub are_own : Count (IsOwn memory key at n) own
-  pub bound : steps ≡ 512 * touched + own
+-- an entry that is written: of a use of the written frame, and in this slot
+pub record IsWrittenEntry (memory : Memory) (key : SpaceKey) (at n : ℕ) (entry : TableUse × ℕ) : Type 0 where
+  pub use_is : IsUse memory key.settings key.root entry.0
+  pub frame : entry.0.frame ≡ page_of at
+  pub slot : IsWrittenSlot at n entry.1

@@ -7,6 +7,10 @@ pub mod Refusals
 pub mod Answering
 pub mod KeptSpaces
 pub mod Horizons
-pub mod Costs
+pub mod Bounds
 pub mod WorkedHistories
+pub mod WorkedKeptSpaces
+pub mod WorkedHorizons
+pub mod WorkedBounds
 pub mod WorkedTranslations
+pub mod WorkedFindings

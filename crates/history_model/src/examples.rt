@@ -1,6 +1,6 @@
 //! Worked examples of the definitions, each a theorem that computes.
 
-ghost use Rattle.history_model.specs.WorkedHistories.{OfInvalidations, OfMoments, OfHorizons, OfRefusals, OfKeptSpaces, OfAsking};
+ghost use Rattle.history_model.specs.WorkedHistories.{OfInvalidations, OfMoments, OfHorizons, OfRefusalLimits, OfRefusals, OfAcceptedEvents, OfAsking};
 
 /// What each event removes, and what it spares.
 #[tactic(auto, unfolding(crate::specs::Invalidations::kills))]
@@ -18,14 +18,19 @@ pub fn horizons()
     ensures { OfHorizons }
 {}
 
+/// The greatest numbers of processors and of written pages.
+pub fn limits()
+    ensures { OfRefusalLimits }
+{}
+
 /// Events that are refused, each with its reason.
 pub fn refusals()
     ensures { OfRefusals }
 {}
 
-/// Kept spaces, the slots that a write touches, and a history of accepted events.
-pub fn kept_spaces()
-    ensures { OfKeptSpaces }
+/// A history of accepted events.
+pub fn accepted_events()
+    ensures { OfAcceptedEvents }
 {}
 
 /// Accesses that are granted or denied.

@@ -28,6 +28,12 @@ module _ {Thing : Type 0} where
     pub all : AreAll Has things
     pub many : length things ≡ n
 
+  -- at least so many things have the property
+  pub record AtLeast (n : ℕ) (Has : Thing → Type 0) : Type 0 where
+    pub things : List Thing
+    pub some : AreSome Has things
+    pub many : n ≤ length things
+
   -- more than so many things have the property
   pub record MoreThan (n : ℕ) (Has : Thing → Type 0) : Type 0 where
     pub things : List Thing

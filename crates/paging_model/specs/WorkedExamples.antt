@@ -5,7 +5,7 @@ use Rattle.std.specs.Prelude.{◌≡◌, ℕ, ◌+◌, ◌-◌, ◌/◌, ◌%◌
 use Rattle.paging_model.specs.Memory.{Memory, byte_in, number_at}
 use Rattle.paging_model.specs.Registers.{pcid_of, root_of}
 use Rattle.paging_model.specs.RegisterRules.{check_of, change_of, after_change}
-use Rattle.paging_model.specs.LinearAddress.{is_canonical, index}
+use Rattle.paging_model.specs.LinearAddress.{is_canonical, index, IsPage}
 use Rattle.paging_model.specs.Entries.{entry_of, joined_bits}
 use Rattle.paging_model.specs.Walking.{walk}
 use Rattle.paging_model.specs.AccessRights.{is_granted, denial_of}
@@ -58,6 +58,10 @@ pub record OfAddresses : Type 0 where
   pub five_levels_hole : is_canonical true 0x100000000000000 ≡ false
   pub index_1 : index 1 0x1ff000 ≡ 511
   pub index_5 : index 5 0xffff000000000000 ≡ 511
+  pub last_page : IsPage false 0xfffffffffffff000
+  pub page_of_the_hole : IsPage false 0x1000000000000 → ⊥
+  pub past_the_last_page : IsPage false 0x10000000000000000 → ⊥
+  pub within_a_page : IsPage false 0x1800 → ⊥
 
 -- of registers with a physical width of 40
 pub record OfRegisters (machine : Machine) : Type 0 where

@@ -1,6 +1,6 @@
 //! Worked examples of the definitions, each a theorem that computes.
 
-ghost use Rattle.paging_model.specs.WorkedSpaces.{OfTranslations, OfListings, OfUses};
+ghost use Rattle.paging_model.specs.WorkedSpaces.{OfTranslations, OfListings, OfUses, OfAreas, OfRegions, OfLimits};
 ghost use Rattle.paging_model.specs.WorkedExamples.{OfMemory, OfAddresses, OfRegisters, OfChanges, OfEntries, OfWalks, OfRights, OfPointers};
 ghost use Rattle.paging_model.specs.declared.registers.Machine.{Machine};
 ghost use Rattle.paging_model.specs.declared.registers.Settings.{Settings};
@@ -11,7 +11,7 @@ pub fn memory()
     ensures { OfMemory }
 {}
 
-/// Canonical addresses, and the entries that an address selects.
+/// Canonical addresses, the entries that an address selects, and pages.
 pub fn addresses()
     ensures { OfAddresses }
 {}
@@ -66,4 +66,19 @@ pub fn listings()
 /// Tables and pages that a space uses.
 pub fn uses()
     ensures { OfUses }
+{}
+
+/// The areas of a whole space.
+pub fn areas()
+    ensures { OfAreas }
+{}
+
+/// The regions of a whole space.
+pub fn regions()
+    ensures { OfRegions }
+{}
+
+/// All tables and pages of a space.
+pub fn limits()
+    ensures { OfLimits }
 {}

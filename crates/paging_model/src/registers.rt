@@ -2,6 +2,8 @@
 
 ghost use Rattle.std.specs.Prelude.{◌≡◌, ◌≤◌};
 
+use thiserror::Error;
+
 /// What a processor model fixes.
 #[derive(Clone, Copy, Debug, PartialEq, Eq)]
 pub struct Machine {
@@ -79,21 +81,28 @@ pub enum RegChange {
     Pkrs(u32),
 }
 
-/// A rule that a register state or a change breaks.
-#[derive(Clone, Copy, Debug, PartialEq, Eq)]
+/// A rule that a register state or a change breaks. It is printed as the program's lines have it.
+#[derive(Clone, Copy, Debug, PartialEq, Eq, Error)]
 pub enum RegRule {
     /// CR0.PE or CR0.PG is 0.
+    #[error("paging-off")]
     PagingOff,
     /// EFER.LME or EFER.LMA is 0.
+    #[error("not-long")]
     NotLong,
     /// CR4.PAE is 0.
+    #[error("no-pae")]
     NoPae,
     /// A change of CR4.LA57.
+    #[error("la57-changed")]
     La57Changed,
     /// CR4.PCIDE is set while CR3 bits 11:0 aren't 0.
+    #[error("pcid-not-zero")]
     PcidNotZero,
     /// CR3 bit 63 is written while CR4.PCIDE is 0.
+    #[error("keep-bit-without-pcid")]
     KeepBitWithoutPcid,
     /// A reserved bit of CR3 is 1.
+    #[error("cr3-reserved")]
     Cr3Reserved,
 }
