@@ -1,5 +1,5 @@
 -- What is spared since a moment was made no earlier than the horizon.
-use Rattle.std.proofs.Common.{◌≡◌, ℕ, ◌≤◌, ◌&&◌, Bool, true, false, refl, ap, ◌∙◌, arith}
+use Rattle.std.proofs.Common.{◌≡◌, ℕ, ◌+◌, ◌≤◌, ◌&&◌, Bool, true, false, Some, refl, ap, ◌∙◌, arith}
 use Rattle.std.proofs.lemmas.Bool.Decides.{nat_tests}
 use Rattle.std.specs.Prelude.{◌==◌, if◌then◌else◌}
 use Rattle.paging_model.specs.declared.registers.Regs.{Regs}
@@ -42,10 +42,6 @@ takes_each (event.Ask cpu access pointer) p known key h = absurd (cc)
 takes_each (event.List cpu) p known key h = absurd (cc)
 takes_each (event.Point all) p known key h = absurd (cc)
 
-choice : (b : Bool) (m n t : ℕ) → b ≡ false → n ≤ t → (if b then m else n) ≤ t
-choice false m n t e h = h
-choice true m n t e h = absurd (cc)
-
 either : (b : Bool) (m n t : ℕ) → m ≤ t → n ≤ t → (if b then m else n) ≤ t
 either false m n t h k = k
 either true m n t h k = h
@@ -60,9 +56,17 @@ spares_all : (lost killed : Bool) → (lost ≡ true → killed ≡ true) → ki
 spares_all false killed f h = refl
 spares_all true killed f h = absurd (let e : killed ≡ true = f refl in cc)
 
+-- an event that spares an entry leaves the horizon
+pub horizon-spares : (before : History) (happened : Event) (p : ℕ) (known : Regs) (key : CacheKey) → regs before p ≡ Some known → kills happened p known key ≡ false
+    → horizon (next before happened) p ≡ horizon before p
+horizon-spares before happened p known key is_known spares =
+    let lost : takes_all happened p (regs before p) ≡ false = ap (takes_all happened p) is_known ∙ spares_all (loses_all happened p known) (kills happened p known key) (takes_each happened p known key) spares in
+    ap (λ (b : Bool). if b then time before + 1 else horizon before p) lost
+
 -- what is spared since a moment isn't older than the horizon
 pub horizon-spared : {p : ℕ} {key : CacheKey} {moment history : History} → Spares moment p key history → horizon history p ≤ time moment
 horizon-spared {p = p} {moment = moment} here = horizon-time moment p
-horizon-spared {p = p} {key = key} {moment = moment} (later {history = before} {known = known} happened spared is_known spares) =
-    let lost : takes_all happened p (regs before p) ≡ false = ap (takes_all happened p) is_known ∙ spares_all (loses_all happened p known) (kills happened p known key) (takes_each happened p known key) spares in
-    choice (takes_all happened p (regs before p)) _ _ _ lost (horizon-spared spared)
+horizon-spared {p = p} {key = key} (later {history = before} {known = known} happened spared is_known spares) =
+    let same = horizon-spares before happened p known key is_known spares in
+    let earlier = horizon-spared spared in
+    omega (arith, same, earlier)

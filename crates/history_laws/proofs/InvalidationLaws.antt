@@ -17,9 +17,10 @@ use Rattle.history_model.specs.declared.caches.Finding.{Finding}
 use Rattle.history_model.specs.declared.events.Event.{Event}
 use Rattle.history_model.specs.declared.events.Event.TheVariants as event
 use Rattle.history_laws.specs.HeldLevels.{HasLevel}
+use Rattle.history_laws.specs.QuietHistories.{IsPresent}
 use Rattle.history_laws.proofs.LevelLaws.{held_has_level}
 use Rattle.history_laws.proofs.HorizonLaws.{takes_each}
-use Rattle.history_laws.proofs.WalkLaws.{some-same, Stands, stands_at_root, stands_below, present_when_it_stands, present_not_stale}
+use Rattle.history_laws.proofs.WalkLaws.{some-same, Stands, stands_at_root, stands_below, present_when_it_stands, translation_not_stale}
 
 -- an event removes each entry of a processor that it held for an address under a PCID
 pub record TakesEach (before : History) (happened : Event) (p c x : ℕ) : Type 0 where
@@ -55,8 +56,10 @@ standing_not_stale : (history : History) (finding : Finding) (known : Regs) (sta
     → Stands (memory history) (machine history) (regs history finding.cpu) stale.may_use.under finding.page stale.level stale.held → ⊥
 standing_not_stale history finding known stale is_known current stands =
     let same : known ≡ stale.known = some-same known stale.known (sym is_known ∙ stale.is_known) in
-    present_not_stale history finding stale (last_root-now history finding.cpu finding.pcid stale.root stale.known stale.is_known (current ∙ ap pcid_of same) stale.is_root)
-    (present_when_it_stands history finding.cpu stale.may_use.under finding.page stale.level stale.held stale.known stale.is_known stale.page.aligned stale.may_use.leaf stands)
+    let present : IsPresent history stale.known stale.level finding.page stale.held =
+    present_when_it_stands history finding.cpu stale.may_use.under finding.page stale.level stale.held stale.known stale.is_known stale.page.aligned stale.may_use.leaf stands in
+    translation_not_stale history finding stale
+    (last_root-now history finding.cpu finding.pcid stale.root stale.known stale.is_known (current ∙ ap pcid_of same) stale.is_root) present.translated
 
 -- right after a processor lost everything, nothing is stale under its current PCID
 pub lost_not_stale : (before : History) (happened : Event) (finding : Finding) (known : Regs) → takes_all happened finding.cpu (regs before finding.cpu) ≡ true

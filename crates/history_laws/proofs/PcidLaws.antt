@@ -29,6 +29,18 @@ pub with_number-old : (m n : ℕ) (list : List ℕ) → IsIn m list → IsIn m (
 with_number-old m n [] i = absurd i
 with_number-old m n (one ∷ rest) i = old_where (n == one) (nat_lt n one) m n one rest i (with_number-old m n rest)
 
+in_where : (same less : Bool) (m n one : ℕ) (rest : List ℕ) → (IsIn m (with_number n rest) → (m ≡ n) ⊎ IsIn m rest)
+    → IsIn m (if same then one ∷ rest else (if less then n ∷ one ∷ rest else one ∷ with_number n rest)) → (m ≡ n) ⊎ IsIn m (one ∷ rest)
+in_where true less m n one rest f i = inr i
+in_where false true m n one rest f (inl e) = inl e
+in_where false true m n one rest f (inr i) = inr i
+in_where false false m n one rest f (inl e) = inr (inl e)
+in_where false false m n one rest f (inr i) = elim (f i) [ inl e ↦ inl e | inr old ↦ inr (inr old) ]
+
+pub with_number-in : (m n : ℕ) (list : List ℕ) → IsIn m (with_number n list) → (m ≡ n) ⊎ IsIn m list
+with_number-in m n [] i = i
+with_number-in m n (one ∷ rest) i = in_where (n == one) (nat_lt n one) m n one rest (with_number-in m n rest) i
+
 with_pcid-old : (m : ℕ) (pcid : Option ℕ) (list : List ℕ) → IsIn m list → IsIn m (with_pcid pcid list)
 with_pcid-old m None list i = i
 with_pcid-old m (Some n) list i = with_number-old m n list i

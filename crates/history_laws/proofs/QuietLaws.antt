@@ -1,7 +1,8 @@
 -- While neither memory nor a register changes, what may be held is what the present walk comes to.
-use Rattle.std.proofs.Common.{◌≡◌, ℕ, suc, ◌%◌, inl, Bool, true, false, Option, Some, None, List, [], ◌∷◌, refl, sym, ap, ◌∙◌, arith, subst}
+use Rattle.std.proofs.Common.{◌≡◌, ℕ, suc, ◌%◌, inl, inr, Bool, true, false, Option, Some, None, List, [], ◌∷◌, refl, sym, ap, ◌∙◌, arith, subst}
 use Rattle.std.proofs.lemmas.Bool.Decides.{nat_tests}
 use Rattle.std.specs.Prelude.{◌==◌, if◌then◌else◌, option_map}
+use Rattle.paging_model.specs.Counting.{IsIn}
 use Rattle.paging_model.specs.Memory.{Memory}
 use Rattle.paging_model.specs.Registers.{pcid_of, root_of}
 use Rattle.paging_model.specs.declared.registers.Machine.{Machine}
@@ -9,25 +10,30 @@ use Rattle.paging_model.specs.declared.registers.Processor.{Processor}
 use Rattle.paging_model.specs.declared.registers.Regs.{Regs}
 use Rattle.history_model.specs.History.{History, begun, next, memory, memory_after, machine, processors, processors_after, regs, regs_in, visited_pcids, with_number, with_pcid, last_root, last_root_under}
 use Rattle.history_model.specs.CachedTranslations.{Held, MayHold, MayUse, kept, at_root, below}
-use Rattle.history_model.specs.StaleTranslations.{IsStale, AreFindings}
-use Rattle.history_model.specs.declared.caches.Finding.{Finding}
+use Rattle.history_model.specs.Horizons.{IsStill, IsUpTo, here, later, is_memory_write}
+use Rattle.history_model.specs.KeptSpaces.{space_of}
 use Rattle.history_model.specs.declared.events.Event.{Event}
 use Rattle.history_model.specs.declared.events.Event.TheVariants as event
 use Rattle.history_laws.specs.HeldLevels.{HasLevel}
 use Rattle.history_laws.specs.QuietHistories.{is_quiet, IsQuiet, IsPresent}
 use Rattle.history_laws.proofs.LevelLaws.{held_has_level}
-use Rattle.history_laws.proofs.WalkLaws.{some-same, Stands, stands_at_root, stands_below, present_when_it_stands, present_not_stale}
+use Rattle.history_laws.proofs.PcidLaws.{with_number-in}
+use Rattle.history_laws.proofs.StillLaws.{unwritten_memory}
+use Rattle.history_laws.proofs.WalkLaws.{some-same, Stands, stands_at_root, stands_below, present_when_it_stands}
+
+quiet_unwritten : (happened : Event) → is_quiet happened ≡ true → is_memory_write happened ≡ false
+quiet_unwritten (event.Machine m) h = refl
+quiet_unwritten (event.Cpu cpu given) h = refl
+quiet_unwritten (event.Write at bytes) h = absurd (cc)
+quiet_unwritten (event.Set cpu change) h = refl
+quiet_unwritten (event.Invlpg cpu address) h = refl
+quiet_unwritten (event.Invpcid cpu kind pcid address) h = refl
+quiet_unwritten (event.Ask cpu access pointer) h = refl
+quiet_unwritten (event.List cpu) h = refl
+quiet_unwritten (event.Point all) h = refl
 
 pub quiet_memory : (happened : Event) (before : Memory) → is_quiet happened ≡ true → memory_after happened before ≡ before
-quiet_memory (event.Machine m) before h = refl
-quiet_memory (event.Cpu cpu given) before h = refl
-quiet_memory (event.Write at bytes) before h = absurd (cc)
-quiet_memory (event.Set cpu change) before h = refl
-quiet_memory (event.Invlpg cpu address) before h = refl
-quiet_memory (event.Invpcid cpu kind pcid address) before h = refl
-quiet_memory (event.Ask cpu access pointer) before h = refl
-quiet_memory (event.List cpu) before h = refl
-quiet_memory (event.Point all) before h = refl
+quiet_memory happened before h = unwritten_memory happened before (quiet_unwritten happened h)
 
 pub quiet_processors : (happened : Event) (before : List Processor) → is_quiet happened ≡ true → processors_after happened before ≡ before
 quiet_processors (event.Machine m) before h = refl
@@ -79,26 +85,44 @@ visited_quiet (next before happened) p known quiet is_known =
     ∙ ap (with_number (pcid_of known)) (visited_quiet before p known quiet.1 (sym (quiet_regs before happened p quiet.0) ∙ is_known))
     ∙ with_number-again (pcid_of known)
 
-unless_earlier : (is_here : Bool) (now root : ℕ) (earlier : Option ℕ) → (earlier ≡ Some root → root ≡ now) → (if is_here then Some now else earlier) ≡ Some root → root ≡ now
-unless_earlier true now root earlier f h = sym (some-same now root h)
-unless_earlier false now root earlier f h = f h
+quiet_up_to : {moment history : History} → IsUpTo moment history → IsQuiet history → IsQuiet moment
+quiet_up_to here quiet = quiet
+quiet_up_to (later happened up_to) quiet = quiet_up_to up_to quiet.1
 
-last_root_under-same : (known : Regs) (now : Option Regs) (m : Machine) (c root : ℕ) (earlier : Option ℕ) → now ≡ Some known → (earlier ≡ Some root → root ≡ root_of known m)
-    → last_root_under m now c earlier ≡ Some root → root ≡ root_of known m
-last_root_under-same known now m c root earlier is_known f h =
-    unless_earlier (pcid_of known == c) (root_of known m) root earlier f (sym (ap (λ one. last_root_under m one c earlier) is_known) ∙ h)
+-- what the machine and a processor's registers give stays
+quiet_now : {A : Type 0} (of : Machine → Regs → A) (p : ℕ) {moment history : History} → IsUpTo moment history → IsQuiet history
+    → option_map (of (machine moment)) (regs moment p) ≡ option_map (of (machine history)) (regs history p)
+quiet_now of p here quiet = refl
+quiet_now of p (later {history = before} happened up_to) quiet =
+    quiet_now of p up_to quiet.1 ∙ ap (option_map (of (machine before))) (sym (quiet_regs before happened p quiet.0))
 
--- the last root of a PCID is the present one
-pub last_root_quiet : (history : History) (p c root : ℕ) (known : Regs) → IsQuiet history → regs history p ≡ Some known → last_root history p c ≡ Some root → root ≡ root_of known (machine history)
-last_root_quiet (begun start) p c root known quiet is_known h = last_root_under-same known _ start.machine c root None is_known (λ none. absurd (cc)) h
-last_root_quiet (next before happened) p c root known quiet is_known h =
-    last_root_under-same known _ (machine before) c root (last_root before p c) is_known (last_root_quiet before p c root known quiet.1 (sym (quiet_regs before happened p quiet.0) ∙ is_known)) h
+abbrev root_in : Machine → Regs → ℕ
+root_in machine known = root_of known machine
 
-pub quiet_not_stale : (history : History) (finding : Finding) → IsQuiet history → IsStale history finding → ⊥
-quiet_not_stale history finding quiet stale =
-    present_not_stale history finding stale (last_root_quiet history finding.cpu finding.pcid stale.root stale.known quiet stale.is_known stale.is_root)
-    (used_is_present history finding.cpu finding.pcid finding.page stale.level stale.held stale.known quiet stale.is_known stale.page.aligned stale.may_use)
+root_where : (is_here : Bool) (n c now : ℕ) (earlier : Option ℕ) (list : List ℕ) → (n ≡ c → is_here ≡ true) → (IsIn c list → earlier ≡ Some now)
+    → IsIn c (with_number n list) → (if is_here then Some now else earlier) ≡ Some now
+root_where true n c now earlier list f g i = refl
+root_where false n c now earlier list f g i = elim (with_number-in c n list i) [
+  | inl e ↦ absurd (let same : false ≡ true = f (sym e) in cc)
+  | inr old ↦ g old
+]
 
-pub quiet_silent : (history : History) (pairs : List (ℕ × ℕ)) → IsQuiet history → AreFindings history pairs []
-quiet_silent history [] quiet = refl
-quiet_silent history (at ∷ rest) quiet = inl ((λ other cpu pcid stale. quiet_not_stale history other quiet stale), quiet_silent history rest quiet)
+root_under : (now : Option Regs) (m : Machine) (c : ℕ) (earlier : Option ℕ) (list : List ℕ) → (IsIn c list → earlier ≡ option_map (λ known. root_of known m) now)
+    → IsIn c (with_pcid (option_map pcid_of now) list) → last_root_under m now c earlier ≡ option_map (λ known. root_of known m) now
+root_under None m c earlier list f i = f i
+root_under (Some known) m c earlier list f i =
+    root_where (pcid_of known == c) (pcid_of known) c (root_of known m) earlier list (λ e. grind (arith, nat_tests)) f i
+
+-- the last root of each visited PCID is the present one
+last_root_quiet : (history : History) (p c : ℕ) → IsQuiet history → IsIn c (visited_pcids history p) → last_root history p c ≡ option_map (root_in (machine history)) (regs history p)
+last_root_quiet (begun start) p c quiet i = root_under _ start.machine c None [] (λ none. absurd none) i
+last_root_quiet (next before happened) p c quiet i =
+    root_under _ (machine before) c (last_root before p c) (visited_pcids before p)
+    (λ old. last_root_quiet before p c quiet.1 old ∙ ap (option_map (root_in (machine before))) (sym (quiet_regs before happened p quiet.0))) i
+
+pub quiet_is_still : (history : History) (p : ℕ) → IsQuiet history → IsStill history p
+quiet_is_still history p quiet = record {
+  unwritten = λ before happened up_to since. let now = quiet_up_to up_to quiet in quiet_unwritten happened now.0;
+  same_space = λ moment up_to since. quiet_now space_of p up_to quiet;
+  same_root = λ moment c up_to since visited. last_root_quiet moment p c (quiet_up_to up_to quiet) visited ∙ quiet_now root_in p up_to quiet;
+}

@@ -106,6 +106,14 @@ own_frame-page level frame page aligned =
     multiple : (n : ℕ) → n % 4096 ≡ 0 → n / 4096 * 4096 ≡ n
     multiple n h = omega arith
 
+-- where the walk ends at the page of what is held, that is the page's present translation
+pub translation_of_page : (memory : Memory) (machine : Machine) (known : Regs) (level page : ℕ) (held : Held) (pages_are_global : Bool) → page % 4096 ≡ 0
+    → IsPageOf pages_are_global level page held (walk memory (settings_of known machine) (root_of known machine) page)
+    → present_target memory machine known (root_of known machine) page ≡ Some (held_target known level page held)
+translation_of_page memory machine known level page held pages_are_global aligned walked =
+    let target = λ (frame : ℕ). let at : Target ℕ = record { frame = frame; kind = rights_of known page (record { bits = held.bits; key = held.key }) } in Some at in
+    ap (λ end. granted_target known page (raw_target_of end)) walked.is_page ∙ ap target (own_frame-page level held.frame page aligned)
+
 -- a translation of a page that stands is the page's present translation
 pub present_when_it_stands : (history : History) (p c page level : ℕ) (held : Held) (known : Regs) → regs history p ≡ Some known → page % 4096 ≡ 0 → held.leaf ≡ true
     → Stands (memory history) (machine history) (regs history p) c page level held → IsPresent history known level page held
@@ -113,21 +121,17 @@ present_when_it_stands history p c page level held known is_known aligned leaf s
     let same : stands.known ≡ known = some-same stands.known known (sym stands.is_known ∙ is_known) in
     let walked : IsPageOf (pge known) level page held (walk (memory history) (settings_of known (machine history)) (root_of known (machine history)) page) =
     subst (λ one. IsPageOf (pge one) level page held (walk (memory history) (settings_of one (machine history)) (root_of one (machine history)) page)) same (stands.comes_to.page leaf) in
-    let target = λ (frame : ℕ). let at : Target ℕ = record { frame = frame; kind = rights_of known page (record { bits = held.bits; key = held.key }) } in Some at in
-    record {
-      walked = walked;
-      translated = ap (λ end. granted_target known page (raw_target_of end)) walked.is_page ∙ ap target (own_frame-page level held.frame page aligned);
-    }
+    record { walked = walked; translated = translation_of_page (memory history) (machine history) known level page held (pge known) aligned walked }
 
 not_over_itself : (target : Target ℕ) → Exceeds (Some target) target → ⊥
 not_over_itself target (inl differs) = differs refl
 not_over_itself target (inr more) = let granted = more.1 in let refused = more.2 in absurd (cc (granted, refused))
 
 -- a present translation isn't stale from the present root
-pub present_not_stale : (history : History) (finding : Finding) (stale : IsStale history finding) → stale.root ≡ root_of stale.known (machine history)
-    → IsPresent history stale.known stale.level finding.page stale.held → ⊥
-present_not_stale history finding stale root is_present =
+pub translation_not_stale : (history : History) (finding : Finding) (stale : IsStale history finding) → stale.root ≡ root_of stale.known (machine history)
+    → present_target (memory history) (machine history) stale.known (root_of stale.known (machine history)) finding.page ≡ Some (held_target stale.known stale.level finding.page stale.held) → ⊥
+translation_not_stale history finding stale root translated =
     let granted : Target ℕ = held_target stale.known stale.level finding.page stale.held in
     let there : present_target (memory history) (machine history) stale.known stale.root finding.page ≡ Some granted =
-    ap (λ at. present_target (memory history) (machine history) stale.known at finding.page) root ∙ is_present.translated in
+    ap (λ at. present_target (memory history) (machine history) stale.known at finding.page) root ∙ translated in
     not_over_itself granted (subst (λ one. Exceeds one granted) there stale.exceeds)

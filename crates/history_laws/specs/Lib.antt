@@ -2,3 +2,5 @@ pub mod Making
 pub mod QuietHistories
 pub mod HeldLevels
 pub mod Executing
+pub mod UntouchedUses
+pub mod Costs

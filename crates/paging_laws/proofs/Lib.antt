@@ -1,5 +1,6 @@
 pub mod Readings
 pub mod Reaching
+pub mod TableFrames
 pub mod Serving
 pub mod MappedPages
 pub mod Pigeonholes

@@ -1,6 +1,6 @@
 -- Distinct members of a list are no more than the list has.
 use Rattle.std.proofs.Common.{◌≡◌, ℕ, ◌≤◌, inl, inr, List, [], ◌∷◌, ◌++◌, length, refl, sym, ap, subst, arith, length-append}
-use Rattle.paging_model.specs.Counting.{IsIn, AreDistinct, AreSome, AreAll, Count, MoreThan, AtMost}
+use Rattle.paging_model.specs.Counting.{IsIn, AreDistinct, AreSome, AreAll, AtLeast, Count, MoreThan, AtMost}
 use Rattle.paging_model.specs.Memory.{Memory}
 use Rattle.paging_model.specs.TableUses.{IsTooLarge, IsWithinLimits}
 use Rattle.paging_model.specs.declared.registers.Settings.{Settings}
@@ -44,6 +44,16 @@ module _ {Thing : Type 0} {Has : Thing → Type 0} where
       let up = some_are_no_more one.things other.things one.all.some other.all in
       let down = some_are_no_more other.things one.things other.all.some one.all in
       omega (arith, one.many, other.many)
+
+  -- where all are counted, at least so many have the property exactly up to their number
+  pub at_least-count : {m n : ℕ} → Count Has n → AtLeast m Has → m ≤ n
+  at_least-count count some =
+      let within = some_are_no_more some.things count.things some.some count.all in
+      omega (arith, count.many, some.many)
+
+  pub count-at_least : {m n : ℕ} → Count Has n → m ≤ n → AtLeast m Has
+  count-at_least count within =
+      record { things = count.things; some = count.all.some; many = omega (arith, count.many) }
 
   pub more_than_at_most : {n : ℕ} → MoreThan n Has → AtMost n Has → ⊥
   more_than_at_most more most =

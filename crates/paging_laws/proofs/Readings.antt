@@ -1,17 +1,18 @@
--- Walks that read equal entries are equal.
-use Rattle.std.proofs.Common.{◌≡◌, ℕ, zero, suc, Option, Some, None, refl, ap, ◌∙◌}
+-- Walks that read equal entries are equal, and come to the same tables.
+use Rattle.std.proofs.Common.{◌≡◌, ℕ, zero, suc, ◌≤◌, Option, Some, None, refl, sym, ap, ◌∙◌, arith}
 use Rattle.std.specs.Prelude.{option_map}
 use Rattle.paging_model.specs.Memory.{Memory, entry_at}
 use Rattle.paging_model.specs.Entries.{entry_of, joined_bits, root_bits}
 use Rattle.paging_model.specs.Walking.{walk, walk_from, at_value, at_entry, entry_address, entry_read, top_level}
-use Rattle.paging_model.specs.TableUses.{Reaches, at_root, below}
+use Rattle.paging_model.specs.TableUses.{Reaches, at_root, below, IsUse}
 use Rattle.paging_model.specs.Translations.{raw_target, raw_target_of}
 use Rattle.paging_model.specs.declared.registers.Settings.{Settings}
 use Rattle.paging_model.specs.declared.entries.Bits.{Bits}
 use Rattle.paging_model.specs.declared.entries.Entry.{Entry}
 use Rattle.paging_model.specs.declared.entries.Entry.TheVariants as entry
+use Rattle.paging_model.specs.declared.spaces.TableUse.{TableUse}
 use Rattle.paging_model.specs.declared.walks.Walk.{Walk}
-use Rattle.paging_laws.specs.ReadEntries.{ReadAlike}
+use Rattle.paging_laws.specs.ReadEntries.{ReadAlike, ReadAlikeAbove}
 
 -- two walks from an entry down are equal where the walks from the table that it references are
 same_at_entry : (one other : ℕ → Bits → Walk) (level x : ℕ) (above : Bits) (meaning : Entry)
@@ -50,6 +51,29 @@ module _ (one other : Memory) (settings : Settings) (root x : ℕ) (alike : Read
 
   pub raw_target-alike : raw_target one settings root x ≡ raw_target other settings root x
   raw_target-alike = ap raw_target_of walk-alike
+
+-- as far down as it reads equal entries, a walk comes to the same tables in both memories
+Reaches-alike : {one other : Memory} {settings : Settings} {root x level table : ℕ} {above : Bits} (least : ℕ)
+    → ReadAlikeAbove least one other settings root x → least ≤ level
+    → Reaches one settings root level x table above → Reaches other settings root level x table above
+Reaches-alike least alike within at_root = at_root
+Reaches-alike {settings = settings} least alike within (below {level = level} {table = table} {above = above} reached read) =
+    below (Reaches-alike least alike (omega arith) reached)
+    (sym (ap (option_map (λ value. entry_of (suc level) settings value)) (alike (suc level) table above (omega arith) reached)) ∙ read)
+
+pub Reaches-back : {one other : Memory} {settings : Settings} {root x level table : ℕ} {above : Bits} (least : ℕ)
+    → ReadAlikeAbove least one other settings root x → least ≤ level
+    → Reaches other settings root level x table above → Reaches one settings root level x table above
+Reaches-back least alike within at_root = at_root
+Reaches-back {settings = settings} least alike within (below {level = level} {table = table} {above = above} reached read) =
+    let here = Reaches-back least alike (omega arith) reached in
+    below here (ap (option_map (λ value. entry_of (suc level) settings value)) (alike (suc level) table above (omega arith) here) ∙ read)
+
+-- a use stands in every memory in which the entries above it are the same
+pub use-alike : (one other : Memory) (settings : Settings) (root : ℕ) (table : TableUse) → IsUse one settings root table
+    → ReadAlikeAbove table.level one other settings root table.prefix → IsUse other settings root table
+use-alike one other settings root table is_use alike =
+    record { serves = is_use.serves; reached = Reaches-alike table.level alike (omega arith) is_use.reached }
 
 -- an entry that references a table is read, and means that
 goes_on_at_value : (go : ℕ → Bits → Walk) (settings : Settings) (level x : ℕ) (above : Bits) (value : Option ℕ) (frame : ℕ) (bits : Bits)

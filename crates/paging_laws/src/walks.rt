@@ -9,7 +9,7 @@ ghost use Rattle.paging_model.specs.Walking.{walk, walk_from};
 ghost use Rattle.paging_model.specs.declared.entries.Bits.{Bits};
 ghost use Rattle.paging_model.specs.declared.registers.Settings.{Settings};
 ghost use Rattle.paging_model.specs.declared.spaces.TableUse.{TableUse};
-ghost use Rattle.paging_laws.specs.ReadEntries.{ReadAlike};
+ghost use Rattle.paging_laws.specs.ReadEntries.{ReadAlike, ReadAlikeAbove};
 ghost use Rattle.paging_laws.specs.ServedAddresses.{IsServedBy, UseFor};
 
 /// A walk depends on the entries that it reads and on nothing else of memory.
@@ -20,6 +20,14 @@ pub fn walks_that_read_equal_entries_are_equal()
     ensures pages { (one other : Memory) (settings : Settings) (root x : ℕ) →
         ReadAlike one other settings root x
         → raw_target one settings root x ≡ raw_target other settings root x }
+{}
+
+/// A use depends on the entries above it and on nothing else of memory.
+pub fn uses_depend_on_the_entries_above_them()
+    ensures { (one other : Memory) (settings : Settings) (root : ℕ) (table : TableUse) →
+        IsUse one settings root table
+        → ReadAlikeAbove table.level one other settings root table.prefix
+        → IsUse other settings root table }
 {}
 
 /// A level and a prefix have one table at most, and one way to it.

@@ -1,5 +1,0 @@
-use Rattle.history_laws.proofs.HorizonLaws.{horizon-spared}
-use Rattle.history_laws.proofs.nothing_is_older_than_the_horizon.Goals as goal
-
-pub returns : goal.returns
-returns c history p pcid level x held since = horizon-spared since.spared
