@@ -1,0 +1,4 @@
+pub mod Moments
+pub mod CacheEntries
+pub mod HeldLists
+pub mod GivenPages

@@ -1,0 +1,5 @@
+pub mod Numbers
+pub mod ReadEntries
+pub mod PageLists
+pub mod Membership
+pub mod ReachedTables

@@ -1,0 +1,5 @@
+pub mod Extents
+pub mod WalkedPages
+pub mod PageTargets
+pub mod ListedPages
+pub mod TableLists
