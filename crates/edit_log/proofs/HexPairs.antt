@@ -7,6 +7,7 @@ use Rattle.std.specs.List.{AllByRecursion}
 use Rattle.edit_log.specs.LogLine.{bytes_of}
 use Rattle.edit_log.specs.Numbers.{hex_digit}
 use Rattle.edit_log.specs.Digits.{byte_of}
+use Rattle.edit_log.proofs.Options.{none_then, some_is, some_map, some_then}
 
 drop_at : (word : List ℕ) (i : ℕ) → i < length word → drop i word ≡ get_or word i 0 ∷ drop (i + 1) word
 drop_at word i within = grind (arith, common_steps)
@@ -41,26 +42,6 @@ pub bytes-none : (word done rest : List ℕ) (high low : ℕ)
 bytes-none word done rest high low same is =
     sym (same ∙ ap (option_map (λ more. done ++ more)) (bytes-pair high low rest ∙ ap (option_and_then (λ b. option_map (λ bytes. b ∷ bytes) (bytes_of rest))) is))
 
-some_then : {A B : Type 0} (o : Option A) (f : A → Option B) (b : B) → option_and_then f o ≡ Some b → (a : A) × (o ≡ Some a) × (f a ≡ Some b)
-some_then None f b is = absurd cc
-some_then (Some a) f b is = (a, refl, is)
-
-some_map : {A B : Type 0} (o : Option A) (f : A → B) (b : B) → option_map f o ≡ Some b → (a : A) × (o ≡ Some a) × (f a ≡ b)
-some_map None f b is = absurd cc
-some_map (Some a) f b is = (a, refl, cc)
-
-some_is : {A : Type 0} (o : Option A) → IsSome o → (value : A) × (o ≡ Some value)
-some_is None some = absurd cc
-some_is (Some value) some = (value, refl)
-
-none_then : {A B : Type 0} (o : Option A) {f : A → Option B} → ((a : A) → f a ≡ None) → option_and_then f o ≡ None
-none_then None none = refl
-none_then (Some a) none = none a
-
-pub none_is : {A : Type 0} (o : Option A) → is_some o ≡ false → o ≡ None
-none_is None none = refl
-none_is (Some value) none = absurd cc
-
 -- an odd number of digits
 odd-digits : (n : ℕ) (word : List ℕ) → length word ≡ 2 * n + 1 → bytes_of word ≡ None
 odd-digits n [] odd = absurd (omega (arith, odd))
@@ -73,7 +54,7 @@ pub bytes-odd : (word : List ℕ) → length word % 2 ≢ 0 → bytes_of word �
 bytes-odd word odd = odd-digits (length word / 2) word (omega (arith, odd))
 
 -- each is a digit
-bytes-digits : (word bytes : List ℕ) → bytes_of word ≡ Some bytes → AllByRecursion (λ c. IsSome (hex_digit c)) word
+pub bytes-digits : (word bytes : List ℕ) → bytes_of word ≡ Some bytes → AllByRecursion (λ c. IsSome (hex_digit c)) word
 bytes-digits [] bytes is = tt
 bytes-digits (c ∷ []) bytes is = absurd cc
 bytes-digits (high ∷ low ∷ rest) bytes is =

@@ -1,14 +1,18 @@
 -- Lines that have come to their end, one after another.
-use Rattle.std.proofs.Common.{◌≡◌, ◌≢◌, ℕ, ◌+◌, ◌-◌, ◌<◌, List, [], ◌∷◌, ◌++◌, length, take, drop, get_or, refl, arith, sym, ap, ◌∙◌, append_assoc, append-nil, inl, inr}
+use Rattle.std.proofs.Common.{◌≡◌, ◌≢◌, ℕ, ◌+◌, ◌-◌, ◌<◌, List, [], ◌∷◌, ◌++◌, length, take, drop, get_or, refl, arith, sym, ap, ◌∙◌, append_assoc, append-nil, inl, inr, subst}
 use Rattle.std.proofs.lemmas.Grind.{common_steps}
 use Rattle.std.proofs.lemmas.Bool.Decides.{nat_tests}
-use Rattle.std.proofs.lemmas.List.Elements.{recursion_from_All, All-push}
+use Rattle.std.proofs.lemmas.Bool.{false≢true}
+use Rattle.std.proofs.lemmas.List.{length-take-le}
+use Rattle.std.proofs.lemmas.List.Elements.{recursion_from_All, All-push, All-from_get_or}
+use Rattle.memchr.specs.Find.{Nowhere, Passes, is_byte}
 use Rattle.std.specs.List.{AllByRecursion}
-use Rattle.std.specs.Prelude.{All, Ok, None, Bool, true, false, ◌⊎◌, if◌then◌else◌}
+use Rattle.std.specs.Prelude.{All, Ok, Err, None, Bool, true, false, ◌≤◌, ◌⊎◌, if◌then◌else◌}
 use Rattle.edit_log.specs.Log.{lines_of, whole_lines, rest_of, has_end}
-use Rattle.edit_log.specs.LogLine.{event_of}
+use Rattle.edit_log.specs.LogLine.{event_of, line_limit}
+use Rattle.edit_log.specs.declared.line_forms.LineFault.TheVariants.{TooLong}
 use Rattle.edit_log.specs.Reading.{Splits}
-use Rattle.edit_log.specs.Scanning.{Heads, Tails, LinesBefore, HasLine, HasNoLine, Skips, FindsEvent}
+use Rattle.edit_log.specs.Scanning.{BeginsWithLine, Heads, Tails, LinesBefore, HasLine, HasNoLine, IsTooLong, Skips}
 
 -- bytes in which no line ends
 pub no_end : (bytes : List ℕ) → AllByRecursion (λ b. b ≢ 10) bytes → has_end bytes ≡ false
@@ -170,15 +174,62 @@ passed-line finished bytes size count more line first has =
     let on : drop (size + more) bytes ≡ drop more (drop size bytes) = grind (arith, common_steps) in
     rw on (passed-more finished bytes (drop size bytes) (drop more (drop size bytes)) first.skipped (line ∷ []) (omega (arith, has.some, has.within)) first.passed has.passed)
 
-pub skips-more : (finished : Bool) (bytes : List ℕ) (size count more : ℕ) → Skips finished bytes size count → FindsEvent finished (drop size bytes) None more
-    → Skips finished bytes (size + more) (count + 1)
-skips-more finished bytes size count more first next =
+pub skips-more : (finished : Bool) (bytes : List ℕ) (size count more : ℕ) (line : List ℕ) → Skips finished bytes size count → HasLine finished (drop size bytes) more line
+    → event_of line ≡ Ok None → Skips finished bytes (size + more) (count + 1)
+skips-more finished bytes size count more line first has means =
     let there : length (drop size bytes) ≡ length bytes - size = grind (arith, common_steps) in
     record {
-      within = omega (arith, first.within, next.has.within, there);
-      skipped = first.skipped ++ next.line ∷ [];
-      skips = All-push (λ line. event_of line ≡ Ok None) first.skipped next.line first.skips next.means;
-      passed = passed-line finished bytes size count more next.line first next.has;
+      within = omega (arith, first.within, has.within, there);
+      skipped = first.skipped ++ line ∷ [];
+      skips = All-push (λ line. event_of line ≡ Ok None) first.skipped line first.skips means;
+      passed = passed-line finished bytes size count more line first has;
       counts = grind (arith, common_steps, first.counts);
-      few = omega (arith, first.few, next.has.some);
+      few = omega (arith, first.few, has.some);
     }
+
+-- a line that is too long already
+pub long-line : (line : List ℕ) → line_limit < length line → event_of line ≡ Err TooLong
+unfolding event_of
+long-line line long = grind (arith, nat_tests, long)
+
+pub too-long : (finished : Bool) (bytes : List ℕ) (size : ℕ) (line : List ℕ) → IsTooLong finished bytes size line → event_of line ≡ Err TooLong
+too-long finished bytes size line long = long-line line (rw long.whole long.long)
+
+-- of any other, the end has come
+pub has-ended : (finished : Bool) (bytes : List ℕ) (size : ℕ) (line : List ℕ) → BeginsWithLine finished bytes size line → event_of line ≢ Err TooLong
+    → HasLine finished bytes size line
+has-ended finished bytes size line (inl has) other = has
+has-ended finished bytes size line (inr long) other = absurd (other (too-long finished bytes size line long))
+
+pub begins-some : (finished : Bool) (bytes : List ℕ) (size : ℕ) (line : List ℕ) → BeginsWithLine finished bytes size line → (0 < size) × (size ≤ length bytes)
+begins-some finished bytes size line (inl has) = (has.some, has.within)
+begins-some finished bytes size line (inr long) = (omega (arith, long.long, long.all), omega (arith, long.all))
+
+-- bytes without LF are a line where no more will come, or where they are too many already
+pub unended-line : (finished : Bool) (bytes : List ℕ) → All (λ b. b ≢ 10) bytes → ((finished ≡ true) × (0 < length bytes)) ⊎ (line_limit < length bytes)
+    → BeginsWithLine finished bytes (length bytes) bytes
+unended-line true bytes none (inl last) = inl (has-last true bytes refl last.1 none)
+unended-line true bytes none (inr long) = inl (has-last true bytes refl (omega (arith, long)) none)
+unended-line false bytes none (inl last) = absurd (false≢true last.0)
+unended-line false bytes none (inr long) = inr (record {
+  has = has-no_line false bytes (λ last. absurd (false≢true last)) none;
+  long = long;
+  whole = refl;
+  all = refl;
+})
+
+-- what a search for LF says
+no_feed : (bytes : List ℕ) (n i : ℕ) → n ≤ length bytes → Nowhere (Passes (is_byte 10) bytes) 0 n → i < length (take n bytes) → get_or (take n bytes) i 0 ≢ 10
+no_feed bytes n i within nowhere below is =
+    let here : i < n = rw (length-take-le n bytes within) at below in
+    let same : get_or bytes i 0 ≡ 10 = grind (arith, common_steps) in
+    nowhere i (omega arith) here (rw same refl)
+
+pub no_feeds_before : (bytes : List ℕ) (n : ℕ) → n ≤ length bytes → Nowhere (Passes (is_byte 10) bytes) 0 n → All (λ b. b ≢ 10) (take n bytes)
+no_feeds_before bytes n within nowhere = All-from_get_or (λ b. b ≢ 10) (take n bytes) 0 (λ i below. no_feed bytes n i within nowhere below)
+
+pub no_feeds : (bytes : List ℕ) → Nowhere (Passes (is_byte 10) bytes) 0 (length bytes) → All (λ b. b ≢ 10) bytes
+no_feeds bytes nowhere =
+    let all : take (length bytes) bytes ≡ bytes = grind (arith, common_steps) in
+    let none : All (λ b. b ≢ 10) (take (length bytes) bytes) = no_feeds_before bytes (length bytes) (omega arith) nowhere in
+    subst (λ (xs : List ℕ). All (λ b. b ≢ 10) xs) all none

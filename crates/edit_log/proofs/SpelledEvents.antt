@@ -1,15 +1,12 @@
 -- Words of certain forms, and the events that they spell.
 use Rattle.std.proofs.Common.{◌≡◌, ℕ, List, [], ◌∷◌, refl}
-use Rattle.std.specs.Prelude.{Bool, true, false, Option, Some, None, IsSome, codes, if◌then◌else◌}
+use Rattle.std.specs.Prelude.{Option, Some, None, IsSome, codes}
 use Rattle.edit_log.specs.LogLine.{event_of_words, is_word, machine_line, cpu_line, write_line, set_line, invlpg_line, invpcid_line, ask_line, list_line, point_line, payload_of}
 use Rattle.edit_log.specs.Numbers.{number_of}
 use Rattle.edit_log.specs.Reading.{Writes}
+use Rattle.edit_log.proofs.Options.{none_either}
 
 -- a word by itself spells none
-none_either : {A : Type 0} (test : Bool) (other : Option A) → other ≡ None → (if test then None else other) ≡ None
-none_either true other none = refl
-none_either false other none = none
-
 pub lone_word : (word : List ℕ) → event_of_words (word ∷ []) ≡ None
 unfolding event_of_words machine_line cpu_line write_line set_line invlpg_line invpcid_line ask_line list_line point_line
 lone_word word =
@@ -25,5 +22,5 @@ writes-payload at word a None is_at is_payload some = absurd cc
 writes-payload at word a (Some bytes) is_at is_payload some = record { at = a; bytes = bytes; is = rw (is_at, is_payload) refl }
 
 -- a write with bytes
-pub writes : (words : List (List ℕ)) (at word : List ℕ) (a : ℕ) → words ≡ at ∷ word ∷ [] → number_of at ≡ Some a → IsSome (payload_of word) → Writes (write_line words)
+pub writes : (words : List (List ℕ)) (at word : List ℕ) (a : ℕ) → write_line words ≡ write_line (at ∷ word ∷ []) → number_of at ≡ Some a → IsSome (payload_of word) → Writes (write_line words)
 writes words at word a is is_at some = rw is (writes-payload at word a (payload_of word) is_at refl some)

@@ -1,12 +1,19 @@
 -- A line split at its first space.
-use Rattle.std.proofs.Common.{◌≡◌, ◌≢◌, ℕ, ◌+◌, ◌-◌, ◌<◌, List, [], ◌∷◌, ◌++◌, refl, arith, ap, ◌∙◌, take, drop, length, get_or}
+use Rattle.std.proofs.Common.{◌≡◌, ◌≢◌, ℕ, ◌+◌, ◌-◌, ◌<◌, List, [], ◌∷◌, ◌++◌, refl, arith, ap, ◌∙◌, take, drop, length, get_or, inl, inr}
 use Rattle.std.proofs.lemmas.Grind.{common_steps}
 use Rattle.std.proofs.lemmas.Bool.Decides.{nat_tests}
-use Rattle.std.specs.Prelude.{All, true, false, ◌==◌, if◌then◌else◌}
+use Rattle.std.proofs.lemmas.Bool.{cases_eq}
+use Rattle.std.specs.Prelude.{All, true, false, ◌⊎◌, ◌==◌, if◌then◌else◌}
 use Rattle.std.proofs.lemmas.List.Elements.{recursion_from_All}
 use Rattle.std.specs.List.{AllByRecursion}
 use Rattle.edit_log.specs.Log.{words_of, onto}
-use Rattle.edit_log.specs.Words.{HasMoreWords}
+
+-- a line of more than one word
+pub record HasMoreWords (line : List ℕ) : Type 0 where
+  pub first : List ℕ
+  pub second : List ℕ
+  pub more : List (List ℕ)
+  pub is : words_of line ≡ first ∷ second ∷ more
 
 -- a word that a space ends
 word-space : (word rest : List ℕ) → AllByRecursion (λ b. b ≢ 32) word → words_of (word ++ 32 ∷ rest) ≡ word ∷ words_of rest
@@ -14,7 +21,7 @@ word-space [] rest none = refl
 word-space (b ∷ word) rest none = grind (arith, nat_tests, word-space word rest none.1, none.0)
 
 -- the last word
-word-last : (word : List ℕ) → AllByRecursion (λ b. b ≢ 32) word → words_of word ≡ word ∷ []
+pub word-last : (word : List ℕ) → AllByRecursion (λ b. b ≢ 32) word → words_of word ≡ word ∷ []
 word-last [] none = refl
 word-last (b ∷ word) none = grind (arith, nat_tests, word-last word none.1, none.0)
 
@@ -28,10 +35,21 @@ words_some (b ∷ line) =
       | false ↦ (b ∷ more.0, more.1, rw more.2 refl)
     ]
 
-pub more_words : (line word rest : List ℕ) → words_of line ≡ word ∷ words_of rest → HasMoreWords line
-more_words line word rest is =
-    let others = words_some rest in
-    record { first = word; second = others.0; more = others.1; is = rw others.2 at is }
+words-onto : (b : ℕ) (line : List ℕ) → b ≢ 32 → words_of (b ∷ line) ≡ onto b (words_of line)
+words-onto b line other = grind (arith, nat_tests, other)
+
+-- a line is one word, or more
+pub one_or_more : (line : List ℕ) → (words_of line ≡ line ∷ []) ⊎ HasMoreWords line
+one_or_more [] = inl refl
+one_or_more (b ∷ line) = elim (cases_eq b 32) [
+  | inl space ↦
+      let some = words_some line in
+      inr (record { first = []; second = some.0; more = some.1; is = ap (λ x. words_of (x ∷ line)) space ∙ ap (λ words. [] ∷ words) some.2 })
+  | inr other ↦ elim (one_or_more line) [
+    | inl one ↦ inl (words-onto b line other ∙ ap (onto b) one)
+    | inr rest ↦ inr (record { first = b ∷ rest.first; second = rest.second; more = rest.more; is = words-onto b line other ∙ ap (onto b) rest.is })
+  ]
+]
 
 parts_at : (bytes : List ℕ) (i separator : ℕ) → i < length bytes → get_or bytes i 0 ≡ separator
     → bytes ≡ take i bytes ++ (separator ∷ drop (i + 1) bytes)

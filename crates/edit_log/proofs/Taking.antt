@@ -1,16 +1,14 @@
 -- What a reader's next event says of its bytes, by what a search finds in them.
 use Rattle.std.proofs.Common.{◌≡◌, ℕ, ◌+◌, ◌<◌, List, [], ◌∷◌, ◌++◌, length, drop, refl, arith, sym, ap, ◌∙◌, append_assoc, append-nil, inl, inr}
 use Rattle.std.proofs.lemmas.Grind.{common_steps}
-use Rattle.std.specs.Prelude.{Bool, true, false, Some, None, ◌⊎◌}
+use Rattle.std.specs.Prelude.{Bool, true, false, Option, Some, None, Result, Ok, Err, ◌⊎◌}
 use Rattle.edit_log.specs.Log.{lines_of, rest_of}
 use Rattle.history_model.specs.declared.events.Event.{Event}
 use Rattle.edit_log.specs.declared.line_forms.LineFault.{LineFault}
-use Rattle.edit_log.specs.Reading.{Reading, NextLine, Gives, Passes, IsFaulty, IsEndless, Refuses, RunsOut, count_after, left_of}
-use Rattle.edit_log.specs.Scanning.{Skips, HasLine, HasNoLine, FindsEvent, FindsNothing, FindsFault, FindsEndless, FindsWrite, IsFound}
-use Rattle.edit_log.specs.declared.line_forms.LineFault.TheVariants.{Memory}
-use Rattle.edit_log.specs.declared.lines.Found.{Found}
-use Rattle.edit_log.specs.declared.lines.Found.TheVariants.{Fault}
-use Rattle.edit_log.proofs.Passing.{lefts, passed-left, passed-rest, before-splits, passed-line, whole-no_end, rest-no_end}
+use Rattle.edit_log.specs.LogLine.{event_of}
+use Rattle.edit_log.specs.Reading.{Reading, NextLine, Gives, Passes, IsFaulty, IsEndless, IsRead, Refuses, RunsOut, SpellsWrite, count_after, left_of}
+use Rattle.edit_log.specs.Scanning.{BeginsWithLine, HasLine, HasNextLine, HasNoLine, HasNothing, Skips, reading_after}
+use Rattle.edit_log.proofs.Passing.{lefts, passed-left, passed-rest, before-splits, has-ended, passed-line, rest-no_end, too-long, whole-no_end}
 
 one-more : (count : ℕ) (skipped : List (List ℕ)) (line : List ℕ) → count ≡ length skipped → count + 1 ≡ length (skipped ++ line ∷ [])
 one-more count skipped line is = grind (arith, common_steps, is)
@@ -47,26 +45,32 @@ next-line old size count more line skips has = record {
   left = left-line old size count more line skips has;
 }
 
-pub gives-event : (old new : Reading) (event : Event) (size count more : ℕ) → Skips old.finished old.rest size count
-    → FindsEvent old.finished (drop size old.rest) (Some event) more → old.refused ≡ None
-    → new ≡ record old { rest = drop (size + more) old.rest; taken = count_after old.taken (count + 1) } → Gives old new event
-gives-event old new event size count more skips finds unrefused is = rw is (record {
-  skipped = skips.skipped;
-  line = finds.line;
-  skips = skips.skips;
-  means = finds.means;
-  left = left-line old size count more finds.line skips finds.has;
-  takes = record {
-    splits = before-splits old.finished old.rest (drop (size + more) old.rest) (skips.skipped ++ finds.line ∷ []) (passed-line old.finished old.rest size count more finds.line skips finds.has);
-    count = ap (count_after old.taken) (one-more count skips.skipped finds.line skips.counts);
-    finished = refl;
-    unrefused = unrefused;
-    going = unrefused;
-  };
-})
+-- the next line gives an event
+pub gives-event : (old new : Reading) (read : Result (Option Event) LineFault) (before count after : ℕ) (line : List ℕ) (event : Event)
+    → Skips old.finished old.rest before count → HasNextLine old.finished old.rest before after line → IsRead line read → old.refused ≡ None
+    → new ≡ reading_after old read before after count → read ≡ Ok (Some event) → Gives old new event
+gives-event old new read before count after line event skips next spells unrefused is reads =
+    let means : event_of line ≡ Ok (Some event) = rw reads at spells in
+    let has = has-ended old.finished (drop before old.rest) next.size line next.begins (λ long. absurd cc) in
+    let now : new ≡ record old { rest = drop (before + next.size) old.rest; taken = count_after old.taken (count + 1) } = rw (reads, next.ends) at is in
+    rw now (record {
+      skipped = skips.skipped;
+      line = line;
+      skips = skips.skips;
+      means = means;
+      left = left-line old before count next.size line skips has;
+      takes = record {
+        splits = before-splits old.finished old.rest (drop (before + next.size) old.rest) (skips.skipped ++ line ∷ []) (passed-line old.finished old.rest before count next.size line skips has);
+        count = ap (count_after old.taken) (one-more count skips.skipped line skips.counts);
+        finished = refl;
+        unrefused = unrefused;
+        going = unrefused;
+      };
+    })
 
+-- no line has come to its end
 pub passes-all : (old new : Reading) (size count : ℕ) → Skips old.finished old.rest size count
-    → FindsNothing old.finished (drop size old.rest) → old.refused ≡ None
+    → HasNothing old.finished (drop size old.rest) → old.refused ≡ None
     → new ≡ record old { rest = drop size old.rest; taken = count_after old.taken count } → Passes old new
 passes-all old new size count skips finds unrefused is = rw is (record {
   skipped = skips.skipped;
@@ -86,48 +90,48 @@ passes-all old new size count skips finds unrefused is = rw is (record {
   begun = λ going_on. sym (rest-skipped old size count skips finds.has going_on);
 })
 
-why : (old : Reading) (fault : LineFault) (size count : ℕ) (skips : Skips old.finished old.rest size count)
-    → FindsFault old.finished (drop size old.rest) fault ⊎ FindsEndless old.finished (drop size old.rest) fault
+-- the next line is refused
+why-refused : (old : Reading) (fault : LineFault) (before count size : ℕ) (line : List ℕ) (skips : Skips old.finished old.rest before count)
+    → BeginsWithLine old.finished (drop before old.rest) size line → event_of line ≡ Err fault
     → IsFaulty old skips.skipped fault ⊎ IsEndless old skips.skipped fault
-why old fault size count skips (inl finds) = inl (record {
-  line = finds.line;
-  next = next-line old size count finds.size finds.line skips finds.has;
-  means = finds.means;
+why-refused old fault before count size line skips (inl has) means = inl (record {
+  line = line;
+  next = next-line old before count size line skips has;
+  means = means;
 })
-why old fault size count skips (inr finds) =
-    let going_on = not_finished old.finished (drop size old.rest) finds.has (omega (arith, finds.long)) in
+why-refused old fault before count size line skips (inr long) means =
+    let going_on = not_finished old.finished (drop before old.rest) long.has (omega (arith, long.long)) in
+    let too_long = too-long old.finished (drop before old.rest) size line long in
     inr (record {
       unfinished = going_on;
       skips = skips.skips;
-      left = left-skipped old size count skips finds.has;
-      long = rw (rest-skipped old size count skips finds.has going_on) finds.long;
-      is = finds.is;
+      left = left-skipped old before count skips long.has;
+      long = rw (rest-skipped old before count skips long.has going_on) long.long;
+      is = cc;
     })
 
-pub refuses-line : (old new : Reading) (fault : LineFault) (size count : ℕ) → Skips old.finished old.rest size count
-    → FindsFault old.finished (drop size old.rest) fault ⊎ FindsEndless old.finished (drop size old.rest) fault
-    → new ≡ record old { rest = drop size old.rest; taken = count_after old.taken (count + 1); refused = Some fault } → Refuses old new fault
-refuses-line old new fault size count skips finds is = rw is (record {
+pub refuses-line : (old new : Reading) (before count after : ℕ) (line : List ℕ) (fault : LineFault)
+    → Skips old.finished old.rest before count → HasNextLine old.finished old.rest before after line → event_of line ≡ Err fault
+    → new ≡ record old { rest = drop before old.rest; taken = count_after old.taken (count + 1); refused = Some fault } → Refuses old new fault
+refuses-line old new before count after line fault skips next means is = rw is (record {
   skipped = skips.skipped;
-  why = why old fault size count skips finds;
-  splits = before-splits old.finished old.rest (drop size old.rest) skips.skipped skips.passed;
+  why = why-refused old fault before count next.size line skips next.begins means;
+  splits = before-splits old.finished old.rest (drop before old.rest) skips.skipped skips.passed;
   count = ap (λ n. count_after old.taken (n + 1)) skips.counts;
   finished = refl;
   refused = refl;
 })
 
-abbrev pub refused_by : LineFault → Reading → Reading
-refused_by fault reading = record reading { refused = Some fault }
-
-pub write-found : (finished : Bool) (rest : List ℕ) (found : Found) (fault : LineFault) → found ≡ Fault fault → fault ≡ Memory → IsFound finished rest found → FindsWrite finished rest
-write-found finished rest found fault is memory finds = rw memory at (rw is at finds)
-
-pub runs-out : (old : Reading) (size count : ℕ) → Skips old.finished old.rest size count
-    → FindsWrite old.finished (drop size old.rest) → RunsOut old old
-runs-out old size count skips finds = record {
-  skipped = skips.skipped;
-  line = finds.line;
-  next = next-line old size count finds.size finds.line skips finds.has;
-  write = finds.write;
-  same = refl;
-}
+-- out of memory for the next line
+pub runs-out : (old : Reading) (before count after : ℕ) (line : List ℕ) → Skips old.finished old.rest before count
+    → HasNextLine old.finished old.rest before after line → SpellsWrite line → RunsOut old old
+runs-out old before count after line skips next write =
+    let spells = write.spells in
+    let has = has-ended old.finished (drop before old.rest) next.size line next.begins (λ long. absurd cc) in
+    record {
+      skipped = skips.skipped;
+      line = line;
+      next = next-line old before count next.size line skips has;
+      write = write;
+      same = refl;
+    }

@@ -1,4 +1,4 @@
--- The digits of decimal and of hexadecimal numbers, and pairs of them.
+-- The digits of decimal and of hexadecimal numbers, and two or four of them.
 use Rattle.std.specs.Prelude.{ℕ, ◌+◌, ◌*◌, Option, option_and_then, option_map}
 use Rattle.edit_log.specs.Numbers.{decimal_digit, hex_digit}
 use Rattle.edit_log.specs.declared.numbers.Radix.{Radix}
@@ -13,6 +13,12 @@ base_of Hexadecimal = 16
 abbrev pub digit_in : Radix → ℕ → Option ℕ
 digit_in Decimal character = decimal_digit character
 digit_in Hexadecimal character = hex_digit character
+
+-- the value of four hexadecimal digits
+abbrev pub four_of : ℕ → ℕ → ℕ → ℕ → Option ℕ
+four_of a b c d =
+    option_and_then (λ w. option_and_then (λ x. option_and_then (λ y. option_map (λ z. 4096 * w + 256 * x + 16 * y + z)
+    (hex_digit d)) (hex_digit c)) (hex_digit b)) (hex_digit a)
 
 -- the byte of a pair
 abbrev pub byte_of : ℕ → ℕ → Option ℕ

@@ -1,7 +1,7 @@
 -- What a reader of a log's lines stands for, and what it takes of the bytes that it was fed.
 use Rattle.std.specs.Prelude.{◌≡◌, ℕ, ◌+◌, ◌-◌, ◌^◌, ◌<◌, ◌≤◌, min, List, [], ◌∷◌, ◌++◌, ◌⊎◌, length, Bool, true, false, All, Option, None, Some, Result, Ok, Err, if◌then◌else◌}
 use Rattle.edit_log.specs.Log.{lines_of, whole_lines, rest_of, has_end}
-use Rattle.edit_log.specs.LogLine.{event_of, line_limit}
+use Rattle.edit_log.specs.LogLine.{event_of, if_event, line_limit}
 use Rattle.history_model.specs.declared.events.Event.{Event}
 use Rattle.history_model.specs.declared.events.Event.TheVariants.{Write}
 use Rattle.edit_log.specs.declared.line_forms.LineFault.{LineFault}
@@ -117,3 +117,8 @@ abbrev pub IsRead : List ℕ → Result (Option Event) LineFault → Type 0
 IsRead line (Ok event) = event_of line ≡ Ok event
 IsRead line (Err Memory) = SpellsWrite line
 IsRead line (Err fault) = event_of line ≡ Err fault
+
+-- what was read of words by themselves
+abbrev pub IsReadOf : Option Event → Result (Option Event) LineFault → Type 0
+IsReadOf event (Err Memory) = Writes event
+IsReadOf event read = read ≡ if_event event

@@ -1,15 +1,11 @@
 -- What a search for the next event skips and finds.
-use Rattle.std.specs.Prelude.{◌≡◌, ℕ, ◌<◌, ◌≤◌, List, [], ◌∷◌, ◌++◌, ◌⊎◌, length, drop, Bool, true, false, Some, None, Ok, Err, Option}
+use Rattle.std.specs.Prelude.{◌≡◌, ◌≢◌, ℕ, ◌+◌, ◌<◌, ◌≤◌, List, [], ◌∷◌, ◌++◌, ◌⊎◌, length, drop, Bool, true, false, Option, Some, None, Result, Ok, Err}
 use Rattle.edit_log.specs.Log.{lines_of, whole_lines, rest_of, has_end}
 use Rattle.edit_log.specs.LogLine.{event_of, line_limit}
 use Rattle.history_model.specs.declared.events.Event.{Event}
 use Rattle.edit_log.specs.declared.line_forms.LineFault.{LineFault}
-use Rattle.edit_log.specs.Reading.{AllSkipped, SpellsWrite}
-use Rattle.edit_log.specs.declared.line_forms.LineFault.TheVariants.{TooLong, Memory}
-use Rattle.edit_log.specs.declared.lines.Found.{Found as FoundType}
-use Rattle.edit_log.specs.declared.lines.Found.TheVariants.{Event as EventOf, Nothing, Fault}
-use Rattle.edit_log.specs.declared.lines.FirstLine.{FirstLine}
-use Rattle.edit_log.specs.declared.lines.FirstLine.TheVariants.{Skipped, Found}
+use Rattle.edit_log.specs.Reading.{AllSkipped, Reading, count_after}
+use Rattle.edit_log.specs.declared.line_forms.LineFault.TheVariants.{Memory}
 
 -- bytes are lines with their LFs, whatever follows
 pub record Heads (prefix : List ℕ) (lines : List (List ℕ)) : Type 0 where
@@ -49,45 +45,35 @@ pub record Skips (finished : Bool) (bytes : List ℕ) (size count : ℕ) : Type 
   pub counts : count ≡ length skipped
   pub few : count ≤ size
 
--- what the first line spells: an event or none
-pub record FindsEvent (finished : Bool) (bytes : List ℕ) (event : Option Event) (size : ℕ) : Type 0 where
-  pub line : List ℕ
-  pub has : HasLine finished bytes size line
-  pub means : event_of line ≡ Ok event
-
--- no line, and not too many bytes of one
-pub record FindsNothing (finished : Bool) (bytes : List ℕ) : Type 0 where
+-- no line has come to its end, and none is too long
+pub record HasNothing (finished : Bool) (bytes : List ℕ) : Type 0 where
   pub has : HasNoLine finished bytes
   pub short : length bytes ≤ line_limit
 
--- the first line has a fault
-pub record FindsFault (finished : Bool) (bytes : List ℕ) (fault : LineFault) : Type 0 where
-  pub line : List ℕ
-  pub size : ℕ
-  pub has : HasLine finished bytes size line
-  pub means : event_of line ≡ Err fault
-
 -- too many bytes of a line whose end has not come
-pub record FindsEndless (finished : Bool) (bytes : List ℕ) (fault : LineFault) : Type 0 where
+pub record IsTooLong (finished : Bool) (bytes : List ℕ) (size : ℕ) (line : List ℕ) : Type 0 where
   pub has : HasNoLine finished bytes
   pub long : line_limit < length bytes
-  pub is : fault ≡ TooLong
+  pub whole : line ≡ bytes
+  pub all : size ≡ length bytes
 
--- the first line spells a write
-pub record FindsWrite (finished : Bool) (bytes : List ℕ) : Type 0 where
-  pub line : List ℕ
+-- a line that has come to its end, or is too long already, of so many bytes
+abbrev pub BeginsWithLine : Bool → List ℕ → ℕ → List ℕ → Type 0
+BeginsWithLine finished bytes size line = HasLine finished bytes size line ⊎ IsTooLong finished bytes size line
+
+-- the first line after so many bytes, up to so many; it isn't skipped
+pub record HasNextLine (finished : Bool) (bytes : List ℕ) (before after : ℕ) (line : List ℕ) : Type 0 where
   pub size : ℕ
-  pub has : HasLine finished bytes size line
-  pub write : SpellsWrite line
+  pub ends : after ≡ before + size
+  pub begins : BeginsWithLine finished (drop before bytes) size line
+  pub some : 0 < size
+  pub within : after ≤ length bytes
+  pub unskipped : event_of line ≢ Ok None
 
--- what ends a search
-abbrev pub IsFound : Bool → List ℕ → FoundType → Type 0
-IsFound finished bytes (EventOf event size) = FindsEvent finished bytes (Some event) size
-IsFound finished bytes Nothing = FindsNothing finished bytes
-IsFound finished bytes (Fault Memory) = FindsWrite finished bytes
-IsFound finished bytes (Fault fault) = FindsFault finished bytes fault ⊎ FindsEndless finished bytes fault
-
--- what the first line gives
-abbrev pub IsFirstLine : Bool → List ℕ → FirstLine → Type 0
-IsFirstLine finished bytes (Skipped size) = FindsEvent finished bytes None size
-IsFirstLine finished bytes (Found found) = IsFound finished bytes found
+-- what a reader is after a line was read: the line is taken, or refused, or out of memory left as it was
+abbrev pub reading_after : Reading → Result (Option Event) LineFault → ℕ → ℕ → ℕ → Reading
+reading_after old (Ok event) before after count =
+    record old { rest = drop after old.rest; taken = count_after old.taken (count + 1) }
+reading_after old (Err Memory) before after count = old
+reading_after old (Err fault) before after count =
+    record old { rest = drop before old.rest; taken = count_after old.taken (count + 1); refused = Some fault }

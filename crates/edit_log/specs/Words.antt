@@ -1,10 +1,7 @@
--- Lines by how many words they have.
-use Rattle.std.specs.Prelude.{◌≡◌, ℕ, List, ◌∷◌}
-use Rattle.edit_log.specs.Log.{words_of}
+-- The words of a line, by how many are left.
+use Rattle.std.specs.Prelude.{◌≡◌, ℕ, List, [], ◌∷◌}
 
--- a line of more than one word
-pub record HasMoreWords (line : List ℕ) : Type 0 where
-  pub first : List ℕ
-  pub second : List ℕ
-  pub more : List (List ℕ)
-  pub is : words_of line ≡ first ∷ second ∷ more
+-- one word alone
+pub record IsOneWord (words : List (List ℕ)) : Type 0 where
+  pub word : List ℕ
+  pub is : words ≡ word ∷ []

@@ -1,7 +1,7 @@
 //! From the bytes of a log to the events that its lines spell.
 //!
-//! [`Lines`] is fed the bytes of a log in one piece, and gives one event after another. What a line is, what it spells
-//! and what a number is stands in `specs/`: `Log`, `LogLine` and `Numbers`.
+//! [`Lines`] is fed the bytes of a log in pieces, however they are cut, and gives one event after another. What a line
+//! is, what it spells and what a number is stands in `specs/`: `Log`, `LogLine` and `Numbers`.
 #![tactic(auto)]
 
 pub mod examples;

@@ -1,14 +1,16 @@
 //! The forms of a line, and the event that a line spells.
+//!
+//! The functions of the forms aren't inlined. Each makes its event where the caller wants it; a function that holds all
+//! nine would move it on the way.
 
-ghost use Rattle.std.specs.Prelude.{◌≡◌, IfOk, IfErr};
-ghost use Rattle.edit_log.specs.Log.{words_of};
-ghost use Rattle.edit_log.specs.LogLine.{event_of_words as event_of_all, machine_line, regs_line, cpu_line, write_line, set_line, change_of_words, invlpg_line, invpcid_line, ask_line, list_line, point_line};
-ghost use Rattle.edit_log.specs.Reading.{IsRead, Writes};
-ghost use Rattle.edit_log.specs.declared.line_forms.LineFault.TheVariants.{Memory};
+ghost use Rattle.std.specs.Prelude.{◌≡◌, ◌≢◌, ◌↔◌, Ok, None, IsTrue};
+ghost use Rattle.std.specs.Result.{result_ok};
+ghost use Rattle.edit_log.specs.LogLine.{event_of, event_of_words, if_event, machine_line, regs_line, cpu_line, write_line, set_line, change_of_words, invlpg_line, invpcid_line, ask_line, list_line, point_line};
+ghost use Rattle.edit_log.specs.Reading.{IsRead, IsReadOf};
+ghost use Rattle.edit_log.specs.declared.line_forms.LineFault.TheVariants.{Memory, Syntax};
 
-use crate::numbers::number;
 use crate::payloads::payload;
-use crate::words::{flag, kind, next_word, only_word, width, word_of_32};
+use crate::words::{Misspelling, Words, access, flag, width, word_of_32, word_of_64};
 use history_model::events::Event;
 use paging_model::registers::{Machine, RegChange, Regs};
 use proc_regs::bit_ranges::bit;
@@ -19,14 +21,14 @@ use thiserror::Error;
 /// The greatest length of a line in bytes, without its LF.
 pub(crate) const LINE_LIMIT: usize = 8300;
 
-/// Why the next line gives no event.
+/// Why the next line gives no event. It is printed as the program's lines have it.
 #[derive(Clone, Copy, Debug, PartialEq, Eq, Error)]
 pub enum LineFault {
     /// The line has more than 8,300 bytes.
-    #[error("the line is too long")]
+    #[error("too long")]
     TooLong,
     /// The line has none of the forms.
-    #[error("the line has none of the forms")]
+    #[error("syntax")]
     Syntax,
     /// Out of memory for the bytes of a write.
     #[error("out of memory")]
@@ -41,220 +43,212 @@ impl From<AllocError> for LineFault {
     }
 }
 
-/// The event of a line without its LF, none for an empty line and for a comment.
+impl From<Misspelling> for LineFault {
+    ghost from_gives = { λ _ e. e ≡ Syntax };
+
+    fn from(_misspelling: Misspelling) -> LineFault {
+        LineFault::Syntax
+    }
+}
+
+/// Whether a line without its LF is skipped: an empty line, or a comment.
+#[tactic(auto, unfolding(crate::specs::LogLine::event_of))]
+pub(crate) fn is_skipped(line: &[u8]) -> bool
+    ensures { IsTrue result ↔ (event_of line.now ≡ Ok None) }
+{
+    line.len() <= LINE_LIMIT && matches!(line.first(), None | Some(b'#'))
+}
+
+/// The event of a line without its LF, which isn't skipped.
 #[tactic(auto, unfolding(crate::specs::LogLine::event_of))]
 pub(crate) fn event_of(alloc: Global, line: &[u8]) -> Result<Option<Event>, LineFault>
+    requires { event_of line.now ≢ Ok None }
     ensures { IsRead line.now result }
 {
     if line.len() > LINE_LIMIT {
         return Err(LineFault::TooLong);
     }
-    if let None | Some(b'#') = line.first() {
-        return Ok(None);
-    }
-    match event_of_words(alloc, line)? {
-        Some(event) => Ok(Some(event)),
-        None => Err(LineFault::Syntax),
-    }
+    event_of_words(alloc, Words::of(line))
 }
 
-/// The event that the words of a line spell, by the first.
+/// The event that words spell, by the first. Most lines are an `ask`. The compiler tests the words as for a `match`, on
+/// which the prover leaves goals open, since there are so many.
 #[tactic(auto, unfolding(crate::specs::LogLine::event_of_words), using(crate::proofs::SpelledEvents::lone_word))]
-fn event_of_words(alloc: Global, line: &[u8]) -> Result<Option<Event>, AllocError>
-    ensures ok { IfOk result (λ event. event ≡ event_of_all (words_of line.now)) }
-    ensures err { IfErr result (λ _. Writes (event_of_all (words_of line.now))) }
+fn event_of_words(alloc: Global, mut words: Words) -> Result<Option<Event>, LineFault>
+    ensures { IsReadOf (event_of_words words.entry) result }
 {
-    let Some((word, rest)) = next_word(line) else {
-        return Ok(None);
-    };
+    let word = words.next()?;
+    if word == b"ask".as_slice() {
+        return ask(words);
+    }
     if word == b"machine".as_slice() {
-        return Ok(machine(rest));
+        return machine(words);
     }
     if word == b"cpu".as_slice() {
-        return Ok(cpu(rest));
+        return cpu(words);
     }
     if word == b"write".as_slice() {
-        return write(alloc, rest);
+        return write(alloc, words);
     }
     if word == b"set".as_slice() {
-        return Ok(set(rest));
+        return set(words);
     }
     if word == b"invlpg".as_slice() {
-        return Ok(invlpg(rest));
+        return invlpg(words);
     }
     if word == b"invpcid".as_slice() {
-        return Ok(invpcid(rest));
-    }
-    if word == b"ask".as_slice() {
-        return Ok(ask(rest));
+        return invpcid(words);
     }
     if word == b"list".as_slice() {
-        return Ok(list(rest));
+        return list(words);
     }
     if word == b"point".as_slice() {
-        return Ok(point(rest));
+        return point(words);
     }
-    Ok(None)
+    Err(LineFault::Syntax)
 }
 
 /// `machine M BIG`
-#[tactic(auto, unfolding(crate::specs::LogLine::machine_line))]
-fn machine(rest: &[u8]) -> Option<Event>
-    ensures { result ≡ machine_line (words_of rest.now) }
+#[inline(never)]
+#[tactic(auto, unfolding(crate::specs::LogLine::machine_line), using(crate::proofs::LastWords::machine_last))]
+fn machine(mut words: Words) -> Result<Option<Event>, LineFault>
+    ensures { result ≡ if_event (machine_line words.entry) }
 {
-    let (m, rest) = next_word(rest)?;
-    let big = only_word(rest)?;
-    Some(Event::Machine(Machine::new(width(m)?, flag(big)?)))
+    let m = width(words.next()?)?;
+    let big = flag(words.last())?;
+    Ok(Some(Event::Machine(Machine::new(m, big))))
 }
 
 /// `cpu P CR0 CR3 CR4 EFER RFLAGS PKRU PKRS`
+#[inline(never)]
 #[tactic(auto, unfolding(crate::specs::LogLine::cpu_line, crate::specs::LogLine::regs_line))]
-fn cpu(rest: &[u8]) -> Option<Event>
-    ensures { result ≡ cpu_line (words_of rest.now) }
+fn cpu(mut words: Words) -> Result<Option<Event>, LineFault>
+    ensures { result ≡ if_event (cpu_line words.entry) }
 {
-    let (cpu, rest) = next_word(rest)?;
-    Some(Event::Cpu(word_of_32(cpu)?, regs(rest)?))
+    let cpu = word_of_32(words.next()?)?;
+    Ok(Some(Event::Cpu(cpu, regs(words)?)))
 }
 
 /// `CR0 CR3 CR4 EFER RFLAGS PKRU PKRS`; of RFLAGS only AC is kept.
-#[tactic(auto, unfolding(crate::specs::LogLine::regs_line))]
-fn regs(rest: &[u8]) -> Option<Regs>
-    ensures { result ≡ regs_line (words_of rest.now) }
+#[tactic(auto, unfolding(crate::specs::LogLine::regs_line), using(crate::proofs::LastWords::regs_last, crate::proofs::LastWords::regs_none))]
+fn regs(mut words: Words) -> Result<Regs, Misspelling>
+    ensures { result_ok result ≡ regs_line words.entry }
 {
-    let (cr0, rest) = next_word(rest)?;
-    let (cr3, rest) = next_word(rest)?;
-    let (cr4, rest) = next_word(rest)?;
-    let (efer, rest) = next_word(rest)?;
-    let (rflags, rest) = next_word(rest)?;
-    let (pkru, rest) = next_word(rest)?;
-    let pkrs = only_word(rest)?;
-    Some(Regs {
-        cr0: number(cr0)?,
-        cr3: number(cr3)?,
-        cr4: number(cr4)?,
-        efer: number(efer)?,
-        ac: bit(number(rflags)?, RFLAGS_AC),
-        pkru: word_of_32(pkru)?,
-        pkrs: word_of_32(pkrs)?,
+    Ok(Regs {
+        cr0: word_of_64(words.next()?)?,
+        cr3: word_of_64(words.next()?)?,
+        cr4: word_of_64(words.next()?)?,
+        efer: word_of_64(words.next()?)?,
+        ac: bit(word_of_64(words.next()?)?, RFLAGS_AC),
+        pkru: word_of_32(words.next()?)?,
+        pkrs: word_of_32(words.last())?,
     })
 }
 
 /// `write ADDR HEX`. Memory is taken only where the line has this form.
-#[tactic(auto, unfolding(crate::specs::LogLine::write_line))]
-fn write(alloc: Global, rest: &[u8]) -> Result<Option<Event>, AllocError>
-    ensures ok { IfOk result (λ event. event ≡ write_line (words_of rest.now)) }
-    ensures err { IfErr result (λ _. Writes (write_line (words_of rest.now))) }
+#[inline(never)]
+#[tactic(auto, unfolding(crate::specs::LogLine::write_line), using(crate::proofs::LastWords::write_last))]
+fn write(alloc: Global, mut words: Words) -> Result<Option<Event>, LineFault>
+    ensures { IsReadOf (write_line words.entry) result }
 {
-    let Some((at, rest)) = next_word(rest) else {
-        return Ok(None);
-    };
-    let Some(word) = only_word(rest) else {
-        return Ok(None);
-    };
-    let Some(at) = number(at) else {
-        return Ok(None);
-    };
-    match payload(alloc, word)? {
+    let at = word_of_64(words.next()?)?;
+    match payload(alloc, words.last())? {
         Some(bytes) => Ok(Some(Event::Write { at, bytes })),
-        None => Ok(None),
+        None => Err(LineFault::Syntax),
     }
 }
 
 /// `set P REG VALUE`
-#[tactic(auto, unfolding(crate::specs::LogLine::set_line))]
-fn set(rest: &[u8]) -> Option<Event>
-    ensures { result ≡ set_line (words_of rest.now) }
+#[inline(never)]
+#[tactic(auto, unfolding(crate::specs::LogLine::set_line), using(crate::proofs::LastWords::set_last))]
+fn set(mut words: Words) -> Result<Option<Event>, LineFault>
+    ensures { result ≡ if_event (set_line words.entry) }
 {
-    let (cpu, rest) = next_word(rest)?;
-    let (register, rest) = next_word(rest)?;
-    let value = only_word(rest)?;
-    Some(Event::Set {
-        cpu: word_of_32(cpu)?,
-        change: change(register, value)?,
-    })
+    let cpu = word_of_32(words.next()?)?;
+    let register = words.next()?;
+    let change = change(register, words.last())?;
+    Ok(Some(Event::Set { cpu, change }))
 }
 
 /// A register by name, and its new value.
 #[tactic(auto, unfolding(crate::specs::LogLine::change_of_words))]
-fn change(register: &[u8], value: &[u8]) -> Option<RegChange>
-    ensures { result ≡ change_of_words register.now value.now }
+fn change(register: &[u8], value: &[u8]) -> Result<RegChange, Misspelling>
+    ensures { result_ok result ≡ change_of_words register.now value.now }
 {
     match register {
-        b"cr0" => number(value).map(RegChange::Cr0),
-        b"cr3" => number(value).map(RegChange::Cr3),
-        b"cr4" => number(value).map(RegChange::Cr4),
-        b"efer" => number(value).map(RegChange::Efer),
+        b"cr0" => word_of_64(value).map(RegChange::Cr0),
+        b"cr3" => word_of_64(value).map(RegChange::Cr3),
+        b"cr4" => word_of_64(value).map(RegChange::Cr4),
+        b"efer" => word_of_64(value).map(RegChange::Efer),
         b"ac" => flag(value).map(RegChange::Ac),
         b"pkru" => word_of_32(value).map(RegChange::Pkru),
         b"pkrs" => word_of_32(value).map(RegChange::Pkrs),
-        _ => None,
+        _ => Err(Misspelling),
     }
 }
 
 /// `invlpg P ADDR`
-#[tactic(auto, unfolding(crate::specs::LogLine::invlpg_line))]
-fn invlpg(rest: &[u8]) -> Option<Event>
-    ensures { result ≡ invlpg_line (words_of rest.now) }
+#[inline(never)]
+#[tactic(auto, unfolding(crate::specs::LogLine::invlpg_line), using(crate::proofs::LastWords::invlpg_last))]
+fn invlpg(mut words: Words) -> Result<Option<Event>, LineFault>
+    ensures { result ≡ if_event (invlpg_line words.entry) }
 {
-    let (cpu, rest) = next_word(rest)?;
-    let address = only_word(rest)?;
-    Some(Event::Invlpg {
-        cpu: word_of_32(cpu)?,
-        address: number(address)?,
-    })
+    Ok(Some(Event::Invlpg {
+        cpu: word_of_32(words.next()?)?,
+        address: word_of_64(words.last())?,
+    }))
 }
 
 /// `invpcid P TYPE PCID ADDR`
-#[tactic(auto, unfolding(crate::specs::LogLine::invpcid_line))]
-fn invpcid(rest: &[u8]) -> Option<Event>
-    ensures { result ≡ invpcid_line (words_of rest.now) }
+#[inline(never)]
+#[tactic(auto, unfolding(crate::specs::LogLine::invpcid_line), using(crate::proofs::LastWords::invpcid_last))]
+fn invpcid(mut words: Words) -> Result<Option<Event>, LineFault>
+    ensures { result ≡ if_event (invpcid_line words.entry) }
 {
-    let (cpu, rest) = next_word(rest)?;
-    let (kind, rest) = next_word(rest)?;
-    let (pcid, rest) = next_word(rest)?;
-    let address = only_word(rest)?;
-    Some(Event::Invpcid {
-        cpu: word_of_32(cpu)?,
-        kind: number(kind)?,
-        pcid: number(pcid)?,
-        address: number(address)?,
-    })
+    Ok(Some(Event::Invpcid {
+        cpu: word_of_32(words.next()?)?,
+        kind: word_of_64(words.next()?)?,
+        pcid: word_of_64(words.next()?)?,
+        address: word_of_64(words.last())?,
+    }))
 }
 
 /// `ask P KIND ADDR`
-#[tactic(auto, unfolding(crate::specs::LogLine::ask_line))]
-fn ask(rest: &[u8]) -> Option<Event>
-    ensures { result ≡ ask_line (words_of rest.now) }
+#[inline(never)]
+#[tactic(auto, unfolding(crate::specs::LogLine::ask_line), using(crate::proofs::LastWords::ask_last))]
+fn ask(mut words: Words) -> Result<Option<Event>, LineFault>
+    ensures { result ≡ if_event (ask_line words.entry) }
 {
-    let (cpu, rest) = next_word(rest)?;
-    let (access, rest) = next_word(rest)?;
-    let pointer = only_word(rest)?;
-    Some(Event::Ask {
-        cpu: word_of_32(cpu)?,
-        access: kind(access)?,
-        pointer: number(pointer)?,
-    })
+    Ok(Some(Event::Ask {
+        cpu: word_of_32(words.next()?)?,
+        access: access(words.next()?)?,
+        pointer: word_of_64(words.last())?,
+    }))
 }
 
 /// `list P`
-#[tactic(auto, unfolding(crate::specs::LogLine::list_line))]
-fn list(rest: &[u8]) -> Option<Event>
-    ensures { result ≡ list_line (words_of rest.now) }
+#[inline(never)]
+#[tactic(auto, unfolding(crate::specs::LogLine::list_line), using(crate::proofs::LastWords::list_last))]
+fn list(words: Words) -> Result<Option<Event>, LineFault>
+    ensures { result ≡ if_event (list_line words.entry) }
 {
-    let cpu = only_word(rest)?;
-    Some(Event::List {
-        cpu: word_of_32(cpu)?,
-    })
+    Ok(Some(Event::List {
+        cpu: word_of_32(words.last())?,
+    }))
 }
 
 /// `point current` or `point all`
-#[tactic(auto, unfolding(crate::specs::LogLine::point_line))]
-fn point(rest: &[u8]) -> Option<Event>
-    ensures { result ≡ point_line (words_of rest.now) }
+#[inline(never)]
+#[tactic(auto, unfolding(crate::specs::LogLine::point_line), using(crate::proofs::LastWords::point_last))]
+fn point(words: Words) -> Result<Option<Event>, LineFault>
+    ensures { result ≡ if_event (point_line words.entry) }
 {
-    match only_word(rest)? {
-        b"current" => Some(Event::Point { all: false }),
-        b"all" => Some(Event::Point { all: true }),
-        _ => None,
+    let scope = words.last();
+    if scope == b"current".as_slice() {
+        return Ok(Some(Event::Point { all: false }));
     }
+    if scope == b"all".as_slice() {
+        return Ok(Some(Event::Point { all: true }));
+    }
+    Err(LineFault::Syntax)
 }

@@ -1,13 +1,13 @@
 //! A reader of a log's lines.
 
-ghost use Rattle.std.specs.Prelude.{◌≡◌, ◌≢◌, ◌≤◌, ◌<◌, ◌^◌, ◌++◌, [], length, drop, false, true, Some, None, Ok, Err, IfSome, IfNone, OnOk, OnErr};
+ghost use Rattle.std.specs.Prelude.{◌≡◌, ◌≢◌, ◌≤◌, ◌<◌, ◌++◌, [], length, drop, false, true, Some, None, Ok, Err, IfSome, IfNone, OnOk, OnErr};
 ghost use Rattle.history_model.specs.declared.events.Event.{Event as EventSpec};
 ghost use Rattle.edit_log.specs.Reading.{Reading, Gives, Passes, Refuses, RunsOut, count_after};
-ghost use Rattle.edit_log.specs.Scanning.{HasLine, HasNoLine, IsFirstLine, IsFound, Skips};
+ghost use Rattle.edit_log.specs.Scanning.{BeginsWithLine, HasNextLine, HasNothing, Skips, reading_after};
 
-use crate::line_forms::{LINE_LIMIT, LineFault, event_of};
-use crate::words::first_index_of;
+use crate::line_forms::{LINE_LIMIT, LineFault, event_of, is_skipped};
 use history_model::events::Event;
+use memchr::memchr;
 use std::alloc::{AllocError, Global};
 use std::marker::Model;
 
@@ -57,14 +57,15 @@ impl Lines {
 
     /// Adds bytes at the end. Out of memory, nothing is added.
     ///
-    /// This version takes the bytes in one piece.
+    /// The bytes that are taken are dropped first, so that the reader holds one rest and one piece. After a `next` that
+    /// gave none the rest has at most 8,300 bytes, so that a piece costs one move of it at most, and one search for LF.
     pub fn feed(&mut self, piece: &[u8]) -> Result<(), AllocError>
         requires unfinished { self.old.finished ≡ false }
-        requires only { (self.old.rest ≡ []) × (self.old.taken ≡ 0) }
         ensures ok { OnOk result
             (self.new ≡ record self.old { rest = self.old.rest ++ piece.now }) }
         ensures err { OnErr result (self.new ≡ self.old) }
     {
+        self.drop_taken();
         self.bytes.extend_from_slice(piece)
     }
 
@@ -94,23 +95,20 @@ impl Lines {
         if let Some(fault) = self.refusal() {
             return Err(fault);
         }
-        let Scanned { size, count, found } = self.scan_rest();
-        match found {
-            Found::Event(event, more) => {
-                self.pass(size + more, count + 1);
-                Ok(Some(event))
-            }
-            Found::Nothing => {
-                self.pass(size, count);
-                Ok(None)
-            }
-            Found::Fault(LineFault::Memory) => Err(LineFault::Memory),
-            Found::Fault(fault) => {
-                self.pass(size, count + 1);
-                self.refuse(fault);
-                Err(fault)
-            }
-        }
+        let alloc = self.alloc;
+        let NextLine {
+            before,
+            count,
+            after,
+            line,
+        } = self.next_line();
+        let Some(line) = line else {
+            self.pass(before, count);
+            return Ok(None);
+        };
+        let read = event_of(alloc, line);
+        self.settle(&read, before, after, count);
+        read
     }
 
     /// The number of the line taken last, a refused one among them, from 1; 0 before the first. It is exact below 2 to
@@ -129,13 +127,50 @@ impl Lines {
         self.fault
     }
 
-    /// What a search for the next event skips and finds.
-    fn scan_rest(&self) -> Scanned
-        ensures skips { Skips self.now.finished self.now.rest result.size result.count }
-        ensures found { IsFound self.now.finished (drop result.size self.now.rest) result.found }
-        ensures fits { length self.now.rest < 2 ^ 63 }
+    /// Drops the bytes that are taken, and moves the others to the front.
+    fn drop_taken(&mut self)
+        ensures { self.new ≡ self.old }
     {
-        scan(self.alloc, &self.bytes[self.start..], self.complete)
+        if self.start > 0 {
+            let left = self.bytes.len() - self.start;
+            self.bytes.copy_within(self.start.., 0);
+            self.bytes.truncate(left);
+            self.start = 0;
+        }
+    }
+
+    /// The next line that isn't skipped.
+    fn next_line(&self) -> NextLine<'_>
+        ensures skips { Skips self.now.finished self.now.rest result.before result.count }
+        ensures some { IfSome result.line (λ line.
+            HasNextLine self.now.finished self.now.rest result.before result.after line.now) }
+        ensures none { IfNone result.line
+            (HasNothing self.now.finished (drop result.before self.now.rest)) }
+    {
+        next_line_of(&self.bytes[self.start..], self.complete)
+    }
+
+    /// Goes by what the next line gave: takes it, refuses it, or out of memory leaves it.
+    fn settle(
+        &mut self,
+        read: &Result<Option<Event>, LineFault>,
+        before: usize,
+        after: usize,
+        count: usize,
+    )
+        requires lines { count ≤ before }
+        requires line { before < after }
+        requires within { after ≤ length self.old.rest }
+        ensures { self.new ≡ reading_after self.old read.now before after count }
+    {
+        match read {
+            Ok(_) => self.pass(after, count + 1),
+            Err(LineFault::Memory) => {}
+            Err(fault) => {
+                self.pass(before, count + 1);
+                self.refuse(*fault);
+            }
+        }
     }
 
     /// Takes the first bytes that are left, and counts lines.
@@ -159,77 +194,57 @@ impl Lines {
     }
 }
 
-/// What ends a search for the next event.
+/// The next line that isn't skipped, in bytes.
 #[derive(Drop)]
-enum Found {
-    /// The event of a line of so many bytes, with its LF.
-    Event(Event, usize),
-    /// No line has come to its end.
-    Nothing,
-    /// The next line is refused, or out of memory for its event.
-    Fault(LineFault),
-}
-
-/// What the first line of bytes gives.
-#[derive(Drop)]
-enum FirstLine {
-    /// A line without an event, of so many bytes, with its LF.
-    Skipped(usize),
-    /// What ends the search.
-    Found(Found),
-}
-
-/// What a search skips and finds.
-#[derive(Drop)]
-struct Scanned {
-    /// The bytes of the lines without an event.
-    size: usize,
-    /// Their number.
+struct NextLine<'a> {
+    /// The bytes of the skipped lines before it.
+    before: usize,
+    /// The number of these lines.
     count: usize,
-    /// What ends it.
-    found: Found,
+    /// The bytes up to the end of the line, its LF among them.
+    after: usize,
+    /// The line without its LF, or more bytes of it than a line may have; none where no line has come to its end.
+    line: Option<&'a [u8]>,
 }
 
 /// Looks for the first line that isn't skipped.
-fn scan(alloc: Global, bytes: &[u8], finished: bool) -> Scanned
-    ensures skips { Skips finished bytes.now result.size result.count }
-    ensures found { IsFound finished (drop result.size bytes.now) result.found }
+fn next_line_of(bytes: &[u8], finished: bool) -> NextLine<'_>
+    ensures skips { Skips finished bytes.now result.before result.count }
+    ensures some { IfSome result.line (λ line.
+        HasNextLine finished bytes.now result.before result.after line.now) }
+    ensures none { IfNone result.line (HasNothing finished (drop result.before bytes.now)) }
 {
-    let mut size = 0;
+    let mut before = 0;
     let mut count = 0;
-    loop {
-        match read_first(alloc, &bytes[size..], finished) {
-            FirstLine::Skipped(more) => {
-                size += more;
-                count += 1;
-            }
-            FirstLine::Found(found) => return Scanned { size, count, found },
+    'lines: while let Some((line, size)) = first_line(&bytes[before..], finished) {
+        if !is_skipped(line) {
+            return NextLine {
+                before,
+                count,
+                after: before + size,
+                line: Some(line),
+            };
         }
+        before += size;
+        count += 1;
+    }
+    NextLine {
+        before,
+        count,
+        after: before,
+        line: None,
     }
 }
 
-/// What the first line gives.
-fn read_first(alloc: Global, bytes: &[u8], finished: bool) -> FirstLine
-    ensures { IsFirstLine finished bytes.now result }
+/// The first line without its LF, and its size in bytes with it: where it has come to its end, or is too long already.
+fn first_line(bytes: &[u8], finished: bool) -> Option<(&[u8], usize)>
+    ensures some { IfSome result
+        (λ found. BeginsWithLine finished bytes.now found.1 found.0.now) }
+    ensures none { IfNone result (HasNothing finished bytes.now) }
 {
-    match split_line(bytes, finished) {
-        Some((line, size)) => match event_of(alloc, line) {
-            Ok(Some(event)) => FirstLine::Found(Found::Event(event, size)),
-            Ok(None) => FirstLine::Skipped(size),
-            Err(fault) => FirstLine::Found(Found::Fault(fault)),
-        },
-        None if bytes.len() > LINE_LIMIT => FirstLine::Found(Found::Fault(LineFault::TooLong)),
-        None => FirstLine::Found(Found::Nothing),
-    }
-}
-
-/// The first line, if it has come to its end, without its LF, and its size in bytes with it.
-fn split_line(bytes: &[u8], finished: bool) -> Option<(&[u8], usize)>
-    ensures some { IfSome result (λ found. HasLine finished bytes.now found.1 found.0.now) }
-    ensures none { IfNone result (HasNoLine finished bytes.now) }
-{
-    match first_index_of(bytes, b'\n') {
+    match memchr(b'\n', bytes) {
         Some(end) => Some((&bytes[..end], end + 1)),
+        None if bytes.len() > LINE_LIMIT => Some((bytes, bytes.len())),
         None if finished && !bytes.is_empty() => Some((bytes, bytes.len())),
         None => None,
     }

@@ -9,7 +9,7 @@ use paging_model::byte_strings::Payload;
 use std::alloc::{AllocError, Global};
 
 /// The bytes of a write that a word spells, 1 to 4,096. Memory is taken only where it spells some.
-#[tactic(auto, using(crate::proofs::HexPairs::none_is))]
+#[tactic(auto, using(crate::proofs::Options::none_is))]
 pub(crate) fn payload(alloc: Global, word: &[u8]) -> Result<Option<Payload>, AllocError>
     ensures ok { IfOk result (λ bytes. bytes ≡ payload_of word.now) }
     ensures err { IfErr result (λ _. IsSome (payload_of word.now)) }

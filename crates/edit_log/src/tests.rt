@@ -1,9 +1,13 @@
 //! Logs whose events were worked out by hand.
 
+ghost use Rattle.std.specs.Prelude.{◌≡◌};
+
 use super::*;
 use history_model::events::Event;
 use paging_model::access::Access;
 use paging_model::registers::RegChange;
+use std::alloc::Global;
+use std::process::Abort;
 use std::test::Fail;
 
 /// A log of one line of most forms.
@@ -113,6 +117,106 @@ fn refuses_lines_for_good(rt: HostRuntime) -> Result<(), Fail> {
         assert!(rt; matches!(&lines.next(), Err(LineFault::Syntax)), "{log:?}");
         assert!(rt; matches!(&lines.next(), Err(LineFault::Syntax)));
         assert_eq!(rt; lines.line(), 2);
+        let wanted = "1 Ok(Some(List { cpu: 0 }))\n2 Err(Syntax)\n2\n";
+        check_cuts(&rt, rt.alloc(), log, wanted)?;
+    }
+    Ok(())
+}
+
+/// The next event, whatever comes of it.
+fn next(lines: &mut Lines) -> Result<Option<Event>, LineFault>
+    ensures { lines.new.finished ≡ lines.old.finished }
+{
+    lines.next()
+}
+
+/// What the lines give that have come to their end, each with its number; whether none of them is refused.
+fn put_all(lines: &mut Lines, text: &mut String) -> Result<bool, Fail>
+    ensures { lines.new.finished ≡ lines.old.finished }
+{
+    for _ in 0..u64::MAX {
+        let read = next(lines);
+        if let Ok(None) = &read {
+            return Ok(true);
+        }
+        let number = lines.line();
+        writeln!(text, "{number} {read:?}")?;
+        if read.is_err() {
+            break;
+        }
+    }
+    Ok(false)
+}
+
+/// What a log gives that is fed in these pieces, up to a refusal, and the number of the last line.
+fn read_pieces(alloc: Global, pieces: &[&[u8]]) -> Result<String, Fail> {
+    let mut lines = Lines::new(alloc);
+    let mut text = String::new(alloc);
+    let mut going = true;
+    for piece in pieces {
+        if going {
+            lines.feed(piece)?;
+            going = put_all(&mut lines, &mut text)?;
+        }
+    }
+    if going {
+        lines.finish();
+        put_all(&mut lines, &mut text)?;
+    }
+    let number = lines.line();
+    writeln!(text, "{number}")?;
+    Ok(text)
+}
+
+/// Feeds a log in pieces of several sizes, and then in two, cut at each place.
+fn check_cuts(rt: &impl Abort, alloc: Global, log: &[u8], wanted: &str) -> Result<(), Fail> {
+    for size in [1, 2, 3, 7, 8301] {
+        let pieces: Vec<&[u8]> = log.chunks(size).collect(alloc)?;
+        let text = read_pieces(alloc, &pieces)?;
+        assert_eq!(rt; text.as_str(), wanted, "pieces of {size} bytes");
+    }
+    for cut in 0..log.len() {
+        let text = read_pieces(alloc, &[&log[..cut], &log[cut..]])?;
+        assert_eq!(rt; text.as_str(), wanted, "cut at {cut}");
+    }
+    Ok(())
+}
+
+#[test]
+fn reads_alike_however_it_is_cut(rt: HostRuntime) -> Result<(), Fail> {
+    let rows: [(&[u8], &str); 7] = [
+        (b"", "0\n"),
+        (b"list 1", "1 Ok(Some(List { cpu: 1 }))\n1\n"),
+        (b"list 1\n\n", "1 Ok(Some(List { cpu: 1 }))\n2\n"),
+        (b"list 1\r\nlist 2\n", "1 Err(Syntax)\n1\n"),
+        (
+            b"#\0\r\0\n\nlist 1\nlist \0",
+            "3 Ok(Some(List { cpu: 1 }))\n4 Err(Syntax)\n4\n",
+        ),
+        (b"\0", "1 Err(Syntax)\n1\n"),
+        (
+            b"ask 7 iw 0x10\n#\npoint current\ninvlpg 0x7 18",
+            "1 Ok(Some(Ask { cpu: 7, access: Iw, pointer: 16 }))\n\
+            3 Ok(Some(Point { all: false }))\n\
+            4 Ok(Some(Invlpg { cpu: 7, address: 18 }))\n4\n",
+        ),
+    ];
+    for (log, wanted) in rows {
+        check_cuts(&rt, rt.alloc(), log, wanted)?;
+    }
+    let whole = read_pieces(rt.alloc(), &[LOG])?;
+    check_cuts(&rt, rt.alloc(), LOG, whole.as_str())
+}
+
+#[test]
+fn reads_long_lines_however_they_are_cut(rt: HostRuntime) -> Result<(), Fail> {
+    for (length, wanted) in [
+        (8300, "2 Ok(Some(List { cpu: 3 }))\n2\n"),
+        (8301, "1 Err(TooLong)\n1\n"),
+    ] {
+        let mut log = vec![in rt.alloc(); b'#'; length]?;
+        log.extend_from_slice(b"\nlist 3\n")?;
+        check_cuts(&rt, rt.alloc(), &log, wanted)?;
     }
     Ok(())
 }

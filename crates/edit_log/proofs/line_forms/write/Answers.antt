@@ -1,17 +1,15 @@
-use Rattle.std.proofs.Common.{◌≡◌, [], ◌∷◌, Ok, Err, sym, ap, ◌∙◌}
-use Rattle.std.specs.Prelude.{IfErr}
-use Rattle.edit_log.specs.Log.{words_of}
+use Rattle.std.proofs.Common.{◌≡◌, [], ◌∷◌, sym, ap, ◌∙◌}
+use Rattle.std.proofs.lemmas.Result.{err_from_is_err_and}
 use Rattle.edit_log.specs.LogLine.{write_line}
-use Rattle.edit_log.specs.Reading.{Writes}
 use Rattle.edit_log.proofs.SpelledEvents.{writes}
+use Rattle.edit_log.proofs.LastWords.{write_last}
 use Rattle.edit_log.proofs.line_forms.write.Goals as goal
 
-pub returns-in_err-bytes-clause-err : goal.returns-in_err-bytes-clause-err
-returns-in_err-bytes-clause-err c =
-    let is : words_of c.args.rest.now ≡ c.in-Some.at.now ∷ c.in-Some-only_word.word.now ∷ [] =
-    c.in-Some.ensures.some ∙ ap (λ words. c.in-Some.at.now ∷ words) c.in-Some-only_word.ensures.one in
-    let write = writes (words_of c.args.rest.now) c.in-Some.at.now c.in-Some-only_word.word.now c.in-Some-number.at is (sym c.in-Some-number.ensures) c.in_err-bytes.ensures.err in
-    elim c.from_residual.result as (λ r. IfErr r (λ x. Writes (write_line (words_of c.args.rest.now)))) [
-      | Ok x ↦ tt
-      | Err x ↦ write
-    ]
+pub returns-in_err-bytes : goal.returns-in_err-bytes
+returns-in_err-bytes c =
+    let error = err_from_is_err_and c.from_residual-in_err-bytes.result c.from_residual-in_err-bytes.ensures.1 in
+    let at = c.in_ok-next.field-0.now in
+    let last = c.last.result.now in
+    let is : write_line c.args.words ≡ write_line (at ∷ last ∷ []) =
+    ap write_line (c.in_ok-next.ensures.ok ∙ ap (λ words. at ∷ words) c.last.ensures) ∙ write_last at last in
+    rw (error.1, error.2) (writes c.args.words at last c.in_ok-at.at is (sym c.in_ok-at.ensures) c.in_err-bytes.ensures.err)

@@ -1,42 +1,37 @@
-use Rattle.std.proofs.Common.{subst, drop, ◌≡◌, ap, ◌∙◌}
+use Rattle.std.proofs.Common.{◌≡◌}
 use Rattle.std.specs.Prelude.{None}
-use Rattle.edit_log.specs.Reading.{Gives}
-use Rattle.edit_log.specs.declared.line_forms.LineFault.TheVariants.{TooLong, Syntax, Memory}
-use Rattle.edit_log.proofs.Taking.{gives-event, passes-all, refuses-line, refused_by, write-found, runs-out}
+use Rattle.edit_log.specs.declared.line_forms.LineFault.TheVariants.{TooLong, Syntax}
+use Rattle.edit_log.proofs.Taking.{gives-event, passes-all, refuses-line, runs-out}
 use Rattle.edit_log.proofs.lines.Lines.next.Goals as goal
 
-pub returns-in-Event-clause-event : goal.returns-in-Event-clause-event
-returns-in-Event-clause-event c = λ event is.
-    let same : c.in-Event.event ≡ event = cc in
+pub returns-in_default-line-clause-none : goal.returns-in_default-line-clause-none
+returns-in_default-line-clause-none c = λ is.
     let unrefused : c.args.self.now.refused ≡ None = cc in
-    subst (λ e. Gives c.args.self.now c.pass.new.self e) same
-    (gives-event c.args.self.now c.pass.new.self c.in-Event.event c.scan_rest-size.result.size c.scan_rest-size.result.count c.in-Event.more c.scan_rest-size.ensures.skips
-    (rw c.in-Event.is at c.scan_rest-size.ensures.found) unrefused c.pass.ensures)
+    let next = c.next_line-before.result in
+    passes-all c.args.self.now c.pass.new.self next.before next.count c.next_line-before.ensures.skips
+    (rw c.in_default-line.is at c.next_line-before.ensures.none) unrefused c.pass.ensures
 
-pub returns-in-Nothing-clause-none : goal.returns-in-Nothing-clause-none
-returns-in-Nothing-clause-none c = λ is.
+pub returns-clause-event : goal.returns-clause-event
+returns-clause-event c = λ event is.
     let unrefused : c.args.self.now.refused ≡ None = cc in
-    passes-all c.args.self.now c.pass-in-Nothing.new.self c.scan_rest-size.result.size c.scan_rest-size.result.count c.scan_rest-size.ensures.skips
-    (rw c.in-Nothing.is at c.scan_rest-size.ensures.found) unrefused c.pass-in-Nothing.ensures
+    let next = c.next_line-before.result in
+    gives-event c.args.self.now c.settle.new.self c.event_of-read.result next.before next.count next.after c.in-Some-line.line.now event
+    c.next_line-before.ensures.skips (rw c.in-Some-line.is at c.next_line-before.ensures.some) c.event_of-read.ensures unrefused c.settle.ensures is
 
-pub returns-in-Fault-Memory-clause-memory : goal.returns-in-Fault-Memory-clause-memory
-returns-in-Fault-Memory-clause-memory c = λ is.
-    runs-out c.args.self.now c.scan_rest-size.result.size c.scan_rest-size.result.count c.scan_rest-size.ensures.skips
-    (let field = c.in-Fault-Memory.field-0-is in let found = c.in-Fault-Memory.is in let memory : c.in-Fault-Memory.field-0 ≡ Memory = cc in
-    write-found c.args.self.now.finished (drop c.scan_rest-size.result.size c.args.self.now.rest) c.scan_rest-size.result.found c.in-Fault-Memory.field-0 c.in-Fault-Memory.is memory c.scan_rest-size.ensures.found)
+pub returns-clause-too_long : goal.returns-clause-too_long
+returns-clause-too_long c = λ is unrefused.
+    let next = c.next_line-before.result in
+    refuses-line c.args.self.now c.settle.new.self next.before next.count next.after c.in-Some-line.line.now TooLong
+    c.next_line-before.ensures.skips (rw c.in-Some-line.is at c.next_line-before.ensures.some) (rw is at c.event_of-read.ensures) (rw is at c.settle.ensures)
 
-pub returns-in-Fault-clause-too_long : goal.returns-in-Fault-clause-too_long
-returns-in-Fault-clause-too_long c = λ is unrefused.
-    let same : c.in-Fault.fault ≡ TooLong = cc in
-    let found = rw same at (rw c.in-Fault.is at c.scan_rest-size.ensures.found) in
-    let end = c.refuse.ensures ∙ ap (refused_by c.in-Fault.fault) c.pass-in-Fault.ensures in
-    refuses-line c.args.self.now c.refuse.new.self TooLong c.scan_rest-size.result.size c.scan_rest-size.result.count c.scan_rest-size.ensures.skips found
-    (rw same at end)
+pub returns-clause-syntax : goal.returns-clause-syntax
+returns-clause-syntax c = λ is unrefused.
+    let next = c.next_line-before.result in
+    refuses-line c.args.self.now c.settle.new.self next.before next.count next.after c.in-Some-line.line.now Syntax
+    c.next_line-before.ensures.skips (rw c.in-Some-line.is at c.next_line-before.ensures.some) (rw is at c.event_of-read.ensures) (rw is at c.settle.ensures)
 
-pub returns-in-Fault-clause-syntax : goal.returns-in-Fault-clause-syntax
-returns-in-Fault-clause-syntax c = λ is unrefused.
-    let same : c.in-Fault.fault ≡ Syntax = cc in
-    let found = rw same at (rw c.in-Fault.is at c.scan_rest-size.ensures.found) in
-    let end = c.refuse.ensures ∙ ap (refused_by c.in-Fault.fault) c.pass-in-Fault.ensures in
-    refuses-line c.args.self.now c.refuse.new.self Syntax c.scan_rest-size.result.size c.scan_rest-size.result.count c.scan_rest-size.ensures.skips found
-    (rw same at end)
+pub returns-clause-memory : goal.returns-clause-memory
+returns-clause-memory c = λ is.
+    let next = c.next_line-before.result in
+    rw (rw is at c.settle.ensures) (runs-out c.args.self.now next.before next.count next.after c.in-Some-line.line.now
+    c.next_line-before.ensures.skips (rw c.in-Some-line.is at c.next_line-before.ensures.some) (rw is at c.event_of-read.ensures))
