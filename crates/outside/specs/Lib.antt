@@ -2,6 +2,8 @@ pub mod Count
 pub mod Shelf
 pub mod Sink
 pub mod Writer
+pub mod WriterSink
 pub mod Whole
+pub mod FileShelf
 pub mod MemShelf
 pub mod MemSink

@@ -1,47 +1,45 @@
-//! A shelf over the host's files, at the trusted edge: their bytes are unknown.
+//! A shelf over files that are opened by name.
 
-ghost use Rattle.std.specs.Prelude.{◌≡◌, ◌≤◌, ℕ, length, drop, IfOk, OnErr};
-ghost use Rattle.std.proofs.Common.{rules};
+ghost use Rattle.std.specs.Prelude.{◌≡◌, ◌≢◌, ◌≤◌, ℕ, List, length, drop, IfOk, OnErr, IsTrue, string_bytes};
 ghost use Rattle.outside.specs.Count.{Rose, faults_after};
-ghost use Rattle.outside.specs.Shelf.{unspecified};
+ghost use Rattle.outside.specs.Shelf.{has_bytes, Reads, reach_after};
 
+use crate::opener::Opener;
 use crate::shelf::{Failed, Shelf};
-use std::fs::File;
-use std::marker::Model;
-use std::os::unix::fs::FileExt;
-use std::{fs, io};
+use std::alloc::Global;
 
-/// Reads the host's files: a name is a path.
+/// Reads the files of an opener.
 ///
-/// The file of the last name stays open until another is read. Contracts see a shelf as its count of faults.
+/// The file of the last name stays open until another is read. A read gives 65,536 bytes at most.
 #[derive(Drop)]
-pub struct FileShelf {
-    rt: HostRuntime,
-    opened: Option<Opened>,
+pub struct FileShelf<O: Opener> {
+    alloc: Global,
+    opener: O,
+    open: Option<OpenFile<O>>,
     faults: u64,
-}
-
-impl Model for FileShelf {
-    ghost Value = { ℕ };
-
-    ghost view = { λ shelf. shelf.faults };
 }
 
 /// An open file and its name.
 #[derive(Drop)]
-struct Opened {
+struct OpenFile<O: Opener> {
     name: String,
-    file: File,
+    file: O::File,
+    ghost matches: { IsTrue (O.is_named file (string_bytes name)) },
 }
 
-impl FileShelf {
+impl<O: Opener> FileShelf<O> {
+    ghost use Rattle.outside.specs.FileShelf.{known_on, reach_on, read_fault_count};
+
     /// A shelf with no file open and no faults yet.
-    pub fn new(rt: HostRuntime) -> FileShelf
-        ensures { result ≡ 0 }
+    pub fn new(alloc: Global, opener: O) -> FileShelf<O>
+        ensures known { (n : List ℕ) → known_on result n ≡ O.known opener n }
+        ensures reach { (n : List ℕ) → reach_on result n ≡ O.reach opener n }
+        ensures faults { read_fault_count result ≡ 0 }
     {
         FileShelf {
-            rt,
-            opened: None,
+            alloc,
+            opener,
+            open: None,
             faults: 0,
         }
     }
@@ -49,80 +47,86 @@ impl FileShelf {
     /// Reads by the open file where it has this name, and else opens the file.
     ///
     /// Out of memory for the name, the file isn't kept open, and the next read opens it again.
-    fn read_file(&mut self, name: &str, at: u64, into: &mut [u8]) -> io::Result<usize>
+    fn read_file(&mut self, name: &str, at: u64, into: &mut [u8]) -> Result<usize, Failed>
         ensures within { IfOk result (λ count. count ≤ length into.new) }
         ensures rest { IfOk result (λ count. drop count into.new ≡ drop count into.old) }
-        ensures faults { self.new ≡ self.old }
+        ensures content { Reads (known_on self.old name.now) at result into.new }
+        ensures known { (n : List ℕ) → known_on self.new n ≡ known_on self.old n }
+        ensures reach { (bytes : List ℕ) → known_on self.old name.now ≡ has_bytes bytes
+            → reach_on self.new name.now ≡ reach_after (reach_on self.old name.now) at result }
+        ensures others { (n : List ℕ) → n ≢ name.now → reach_on self.new n ≡ reach_on self.old n }
+        ensures faults { read_fault_count self.new ≡ read_fault_count self.old }
     {
-        if let Some(opened) = &self.opened
-            && opened.name.as_str() == name
+        if let Some(open) = &self.open
+            && open.name.as_str() == name
         {
-            return fill(&opened.file, at, into);
+            return read_part(&mut self.opener, &open.file, at, into);
         }
-        let file = fs::open(&self.rt, name)?;
-        let count = fill(&file, at, into)?;
-        if let Ok(name) = String::from_str(self.rt.alloc(), name) {
-            self.opened = Some(Opened { name, file });
+        let file = self.opener.open(name)?;
+        let count = read_part(&mut self.opener, &file, at, into)?;
+        if let Ok(name) = String::from_str(self.alloc, name) {
+            self.open = Some(OpenFile { name, file });
         }
         Ok(count)
     }
 }
 
-/// Reads until there is no room or the file ends.
-fn fill(file: &File, at: u64, into: &mut [u8]) -> io::Result<usize>
+/// Reads a file by way of a buffer: what the opener did to the rest of the buffer is unknown.
+fn read_part<O: Opener>(
+    opener: &mut O,
+    file: &O::File,
+    at: u64,
+    into: &mut [u8],
+) -> Result<usize, Failed>
     ensures within { IfOk result (λ count. count ≤ length into.new) }
     ensures rest { IfOk result (λ count. drop count into.new ≡ drop count into.old) }
+    ensures content { (n : List ℕ) → IsTrue (O.is_named file.now n)
+        → Reads (O.known opener.old n) at result into.new }
+    ensures known { (n : List ℕ) → O.known opener.new n ≡ O.known opener.old n }
+    ensures reach { (n bytes : List ℕ) → IsTrue (O.is_named file.now n)
+        → O.known opener.old n ≡ has_bytes bytes
+        → O.reach opener.new n ≡ reach_after (O.reach opener.old n) at result }
+    ensures others { (n other : List ℕ) → IsTrue (O.is_named file.now n) → other ≢ n
+        → O.reach opener.new other ≡ O.reach opener.old other }
 {
     let mut own = [0u8; 65536];
-    let mut done = 0;
-    while done < into.len() {
-        let count = read_part(
-            file,
-            at.saturating_add(done as u64),
-            &mut own,
-            &mut into[done..],
-        )?;
-        if count == 0 {
-            break;
-        }
-        done += count;
-    }
-    Ok(done)
-}
-
-/// Reads at an offset, by way of a buffer: what the host did to the rest of the buffer is unknown.
-fn read_part(file: &File, at: u64, own: &mut [u8], into: &mut [u8]) -> io::Result<usize>
-    ensures within { IfOk result (λ count. count ≤ length into.new) }
-    ensures rest { IfOk result (λ count. drop count into.new ≡ drop count into.old) }
-{
     let room = own.len().min(into.len());
-    let count = file.read_at(&mut own[..room], at)?;
+    let count = opener.read_at(file, at, &mut own[..room])?;
     into[..count].copy_from_slice(&own[..count]);
     Ok(count)
 }
 
-impl Shelf for FileShelf {
-    ghost known = { λ _ _. unspecified };
+impl<O: Opener> Shelf for FileShelf<O> {
+    ghost use Rattle.outside.specs.FileShelf.{known_on, reach_on, read_fault_count};
 
-    ghost reach = { λ _ _. 0 };
+    ghost known = { known_on };
 
-    ghost faults = { λ faults _. faults };
+    ghost reach = { reach_on };
 
-    ghost reach_within = { Prim.search rules };
+    ghost faults = { λ shelf _. read_fault_count shelf };
+
+    ghost reach_within = { λ shelf. O.reach_within shelf.opener };
 
     fn read_at(&mut self, name: &str, at: u64, into: &mut [u8]) -> Result<usize, Failed>
         ensures within { IfOk result (λ count. count ≤ length into.new) }
         ensures rest { IfOk result (λ count. drop count into.new ≡ drop count into.old) }
-        ensures count { self.old ≤ self.new }
-        ensures cause { OnErr result (Rose self.old self.new) }
+        ensures content { Reads (known_on self.old name.now) at result into.new }
+        ensures known { (n : List ℕ) → known_on self.new n ≡ known_on self.old n }
+        ensures reach { (bytes : List ℕ) → known_on self.old name.now ≡ has_bytes bytes
+            → reach_on self.new name.now ≡ reach_after (reach_on self.old name.now) at result }
+        ensures others { (n : List ℕ) → n ≢ name.now → reach_on self.new n ≡ reach_on self.old n }
+        ensures count { read_fault_count self.old ≤ read_fault_count self.new }
+        ensures cause { OnErr result
+            (Rose (read_fault_count self.old) (read_fault_count self.new)) }
 
         // One count serves every name, and moves at failures alone.
-        ensures faults { self.new ≡ faults_after self.old result }
+        ensures faults { read_fault_count self.new
+            ≡ faults_after (read_fault_count self.old) result }
     {
         let result = self.read_file(name, at, into);
         if result.is_err() {
             self.faults = self.faults.saturating_add(1);
         }
-        result.map_err(|_| Failed)
+        result
     }
 }

@@ -1,10 +1,13 @@
 //! What no clause says: that calls succeed, and what the host's files and output do.
 
 use crate::buffered::Buffered;
-use crate::{Failed, FileShelf, MemShelf, MemSink, ReadFault, Shelf, Sink, StreamSink, read_all};
+use crate::{
+    Failed, FileShelf, HostFiles, MemShelf, MemSink, Opener, ReadFault, Shelf, Sink, WriterSink,
+    read_all,
+};
 use std::alloc::{AllocError, Global};
-use std::fs;
 use std::test::Fail;
+use std::{fs, io};
 
 /// A file that a test writes.
 const PATH: &str = "outside-test-file";
@@ -17,6 +20,41 @@ const OTHER: &str = "outside-test-other";
 
 /// More bytes than one piece of `read_all` has.
 const TWO_PIECES: u32 = 300_000;
+
+/// The most bytes that a read of a file gives.
+const PART: usize = 65_536;
+
+/// Files in memory, whose bytes are known.
+#[derive(Drop)]
+struct MemFiles {
+    alloc: Global,
+    shelf: MemShelf,
+}
+
+impl Opener for MemFiles {
+    ghost use Rattle.std.specs.Prelude.{string_bytes};
+    ghost use Rattle.std.specs.Str.{bytes_eq};
+    ghost use Rattle.std.proofs.Common.{rules};
+    ghost use Rattle.outside.specs.MemShelf.{known_in, reach_in};
+
+    type File = String;
+
+    ghost known = { λ files. known_in files.shelf };
+
+    ghost reach = { λ files. reach_in files.shelf };
+
+    ghost is_named = { λ file name. bytes_eq (string_bytes file) name };
+
+    ghost reach_within = { Prim.search rules };
+
+    fn open(&self, name: &str) -> Result<String, Failed> {
+        String::from_str(self.alloc, name).map_err(|_| Failed)
+    }
+
+    fn read_at(&mut self, file: &String, at: u64, into: &mut [u8]) -> Result<usize, Failed> {
+        self.shelf.read_at(file.as_str(), at, into)
+    }
+}
 
 /// Bytes that repeat after a prime number of them.
 fn pattern(alloc: Global, len: u32) -> Result<Vec<u8>, AllocError> {
@@ -68,6 +106,15 @@ fn keeps_pieces(rt: HostRuntime) -> Result<(), Fail> {
 }
 
 #[test]
+fn keeps_a_piece_of_4096_bytes(rt: HostRuntime) -> Result<(), Fail> {
+    let piece = pattern(rt.alloc(), 4_096)?;
+    let mut sink = MemSink::new(rt.alloc());
+    assert_eq!(rt; sink.put(&piece), Ok(()));
+    assert!(rt; sink.bytes() == piece.as_slice());
+    Ok(())
+}
+
+#[test]
 fn reads_up_to_a_limit(rt: HostRuntime) -> Result<(), Fail> {
     let content = [1u8, 2, 3, 4, 5, 6, 7, 8];
     let mut shelf = MemShelf::new(rt.alloc());
@@ -100,7 +147,7 @@ fn fails_in_the_second_piece(rt: HostRuntime) -> Result<(), Fail> {
 fn reads_files(rt: HostRuntime) -> Result<(), Fail> {
     let content = pattern(rt.alloc(), TWO_PIECES)?;
     fs::write(&rt, PATH, content.as_slice())?;
-    let mut shelf = FileShelf::new(rt);
+    let mut shelf = FileShelf::new(rt.alloc(), HostFiles::new(rt));
     let whole = read_all(rt.alloc(), &mut shelf, PATH, u64::MAX)?;
     assert!(rt; whole.bytes.as_slice() == content.as_slice());
     assert!(rt; !whole.cut);
@@ -120,9 +167,8 @@ fn reads_files_in_turn(rt: HostRuntime) -> Result<(), Fail> {
     let skipped = content.get(7..).unwrap_or(&[]);
     fs::write(&rt, FIRST, content.as_slice())?;
     fs::write(&rt, OTHER, skipped)?;
-    let mut shelf = FileShelf::new(rt);
+    let mut shelf = FileShelf::new(rt.alloc(), HostFiles::new(rt));
     let mut into = vec![in rt.alloc(); 0; 140_000]?;
-    // The host gives at most 65,536 bytes at once: offsets at the start, inside and at the end of such a part.
     for (path, bytes, at) in [
         (FIRST, content.as_slice(), 0),
         (OTHER, skipped, 0),
@@ -134,7 +180,7 @@ fn reads_files_in_turn(rt: HostRuntime) -> Result<(), Fail> {
         (OTHER, skipped, 299_993),
     ] {
         let rest = bytes.get(at..).unwrap_or(&[]);
-        let count = rest.len().min(into.len());
+        let count = rest.len().min(PART);
         assert_eq!(rt;
             shelf.read_at(path, at as u64, &mut into),
             Ok(count),
@@ -144,6 +190,27 @@ fn reads_files_in_turn(rt: HostRuntime) -> Result<(), Fail> {
     }
     fs::remove_file(&rt, FIRST)?;
     fs::remove_file(&rt, OTHER)?;
+    Ok(())
+}
+
+#[test]
+fn reads_an_openers_files_in_turn(rt: HostRuntime) -> Result<(), Fail> {
+    let alloc = rt.alloc();
+    let content = pattern(alloc, TWO_PIECES)?;
+    let skipped = content.get(7..).unwrap_or(&[]);
+    let mut shelf = MemShelf::new(alloc);
+    shelf.add(FIRST, &content)?;
+    shelf.add(OTHER, skipped)?;
+    shelf.fail(3)?;
+    let mut shelf = FileShelf::new(alloc, MemFiles { alloc, shelf });
+    let first = read_all(alloc, &mut shelf, FIRST, 9)?;
+    assert!(rt; Some(first.bytes.as_slice()) == content.get(..9));
+    let failed = read_all(alloc, &mut shelf, OTHER, u64::MAX);
+    assert_eq!(rt; failed.err(), Some(ReadFault::Device));
+    let other = read_all(alloc, &mut shelf, OTHER, u64::MAX)?;
+    assert!(rt; other.bytes.as_slice() == skipped);
+    let missing = read_all(alloc, &mut shelf, PATH, 1);
+    assert_eq!(rt; missing.err(), Some(ReadFault::Device));
     Ok(())
 }
 
@@ -166,8 +233,23 @@ fn buffers_pieces(rt: HostRuntime) -> Result<(), Fail> {
 }
 
 #[test]
+fn writes_what_was_put(rt: HostRuntime) -> Result<(), Fail> {
+    let piece = pattern(rt.alloc(), 65_537)?;
+    let mut written = Vec::new(rt.alloc());
+    let mut sink = WriterSink::new(rt.alloc(), &mut written);
+    for len in [0, 1, 15, 16, 65_535, 65_536, 65_537] {
+        assert_eq!(rt; sink.put(piece.get(..len).unwrap_or(&[])), Ok(()));
+    }
+    assert_eq!(rt; sink.flush(), Ok(()));
+    assert_eq!(rt; sink.flush(), Ok(()));
+    drop(sink);
+    assert_eq!(rt; written.len(), 32 + 3 * 65_536);
+    Ok(())
+}
+
+#[test]
 fn puts_nothing(rt: HostRuntime) {
-    let mut sink = StreamSink::new(rt.alloc(), rt);
+    let mut sink = WriterSink::new(rt.alloc(), io::writer(&rt));
     assert_eq!(rt; sink.put(b""), Ok(()));
     assert_eq!(rt; sink.flush(), Ok(()));
 }
