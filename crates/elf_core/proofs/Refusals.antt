@@ -1,5 +1,5 @@
 -- The steps over notes and program headers, one at a time.
-use Rattle.std.proofs.Common.{◌≡◌, ℕ, suc, ◌+◌, ◌-◌, ◌<◌, ◌≤◌, List, [], ◌∷◌, Result, Ok, Err, refl, ap, ◌∙◌, arith, inl, inr}
+use Rattle.std.proofs.Common.{◌≡◌, ℕ, suc, ◌+◌, ◌-◌, ◌<◌, ◌≤◌, List, [], ◌∷◌, Result, Ok, refl, ap, arith, inl, inr}
 use Rattle.elf_core.specs.Steps.{◌>>=◌, steps_over}
 use Rattle.elf_core.specs.Cores.{after_header, after_headers, indices_from, blank_core, core_of, IsRefusalOf}
 use Rattle.elf_core.specs.FileHeader.{file_header_check, e_phnum}

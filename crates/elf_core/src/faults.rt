@@ -7,57 +7,79 @@ use paging_model::registers::RegRule;
 use std::alloc::AllocError;
 use thiserror::Error;
 
-/// The rule that a state note breaks, the first in this order. The sentence of each says what the rule refuses.
+/// The rule that a state note breaks, the first in this order. It is printed as the program's lines have it.
 #[derive(Clone, Copy, Debug, PartialEq, Eq, Error)]
 pub enum NoteRule {
-    #[error("its type is neither 1, the machine, nor 2, a processor")]
+    /// Its type is neither 1, the machine, nor 2, a processor.
+    #[error("kind")]
     Kind,
-    #[error("its description isn't of 8 bytes for the machine or of 64 for a processor")]
+    /// Its description isn't of 8 bytes for the machine or of 64 for a processor.
+    #[error("size")]
     Size,
-    #[error("a field that is 0 by the layout isn't 0")]
+    /// A field that is 0 by the layout isn't 0.
+    #[error("zero")]
     Zero,
-    #[error("the physical width isn't from 32 to 52, or the flag of 1-GByte pages is neither 0 nor 1")]
+    /// The physical width isn't from 32 to 52, or the flag of 1-GByte pages is neither 0 nor 1.
+    #[error("range")]
     Range,
-    #[error("it states the machine after a processor")]
+    /// It states the machine after a processor.
+    #[error("late")]
     Late,
-    #[error("it states the machine, or a processor of its number, for the second time")]
+    /// It states the machine, or a processor of its number, for the second time.
+    #[error("twice")]
     Twice,
-    #[error("it states a 65th processor")]
+    /// It states a 65th processor.
+    #[error("too many")]
     TooMany,
-    #[error("its registers break the rule {0:?} of the machine")]
+    /// Its registers break this rule of the machine.
+    #[error("{0}")]
     Regs(RegRule),
 }
 
-/// Why a file is no core: the first rule that is broken, in the order of the file. The sentence of each says what the
-/// rule refuses, and the index is that of a program header.
+/// Why a file is no core: the first rule that is broken, in the order of the file. It is printed as the program's lines
+/// have it.
 #[derive(Clone, Copy, Debug, PartialEq, Eq, Error)]
 pub enum CoreFault {
-    #[error("the file has fewer than 64 bytes")]
+    /// The file has fewer than 64 bytes.
+    #[error("short")]
     Short,
-    #[error("the file doesn't begin as ELF files do")]
+    /// The file doesn't begin as ELF files do.
+    #[error("not elf")]
     NotElf,
-    #[error("EI_CLASS isn't 2, the 64-bit class")]
+    /// EI_CLASS isn't 2, the 64-bit class.
+    #[error("class")]
     Class,
-    #[error("EI_DATA isn't 1, little-endian")]
+    /// EI_DATA isn't 1, little-endian.
+    #[error("encoding")]
     Encoding,
-    #[error("e_type isn't 4, a core")]
+    /// e_type isn't 4, a core.
+    #[error("type")]
     FileType,
-    #[error("e_machine isn't 62, x86-64")]
+    /// e_machine isn't 62, x86-64.
+    #[error("machine")]
     FileMachine,
-    #[error("e_phentsize isn't 56")]
+    /// e_phentsize isn't 56.
+    #[error("header size")]
     HeaderSize,
-    #[error("e_phnum is 0xFFFF, so the count of program headers stands elsewhere")]
+    /// e_phnum is 0xFFFF, so the count of program headers stands elsewhere.
+    #[error("header count")]
     HeaderCount,
-    #[error("the program headers pass the end of the file")]
+    /// The program headers pass the end of the file.
+    #[error("header range")]
     HeaderRange,
-    #[error("the segment of program header {0} passes the end of the file")]
+    /// The segment of the program header of this index passes the end of the file.
+    #[error("segment range {0}")]
     SegmentRange(u16),
-    #[error("the segment of program header {0} passes physical address 2 to the 52")]
+    /// The segment of the program header of this index passes physical address 2 to the 52.
+    #[error("segment address {0}")]
     SegmentAddress(u16),
-    #[error("the notes of program header {0} pass the end of the file, or one passes their end")]
+    /// The notes of the program header of this index pass the end of the file, or one passes their end.
+    #[error("note range {0}")]
     NoteRange(u16),
-    #[error("a state note of program header {0} is refused: {1}")]
+    /// A state note of the program header of this index breaks this rule.
+    #[error("note state {0} {1}")]
     NoteState(u16, NoteRule),
+    /// Out of memory.
     #[error("out of memory")]
     Memory,
 }

@@ -446,26 +446,3 @@ fn reads_as_many_headers_as_there_may_be(rt: HostRuntime) -> Result<(), Fail> {
     assert_eq!(rt; refusal, Some(CoreFault::SegmentRange(65_533)));
     Ok(())
 }
-
-#[test]
-fn says_why(rt: HostRuntime) -> Result<(), Fail> {
-    for (fault, sentence) in [
-        (CoreFault::Short, "the file has fewer than 64 bytes"),
-        (
-            CoreFault::SegmentRange(7),
-            "the segment of program header 7 passes the end of the file",
-        ),
-        (
-            CoreFault::NoteState(2, NoteRule::Zero),
-            "a state note of program header 2 is refused: a field that is 0 by the layout isn't 0",
-        ),
-        (
-            CoreFault::NoteState(0, NoteRule::Regs(RegRule::NoPae)),
-            "a state note of program header 0 is refused: its registers break the rule NoPae of the machine",
-        ),
-        (CoreFault::Memory, "out of memory"),
-    ] {
-        assert_eq!(rt; fault.to_string(rt.alloc())?.as_str(), sentence);
-    }
-    Ok(())
-}

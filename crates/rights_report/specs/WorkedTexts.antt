@@ -5,7 +5,7 @@ use Rattle.paging_model.specs.declared.registers.RegRule.TheVariants as register
 use Rattle.history_model.specs.declared.answers.Answer.TheVariants as answer
 use Rattle.history_model.specs.declared.answers.Why.TheVariants.{NotCanonical, Absent, Denied}
 use Rattle.history_model.specs.declared.faults.StepFault.TheVariants as fault
-use Rattle.rights_report.specs.AnswerLines.{answer_lines, asked_line}
+use Rattle.rights_report.specs.AnswerLines.{answer_lines, area_line, asked_line}
 use Rattle.rights_report.specs.LogRefusals.{log_refusal_line}
 use Rattle.rights_report.specs.declared.refusals.Cause.TheVariants.{TooLong, Syntax, Step}
 
@@ -16,6 +16,7 @@ pub record OfTexts : Type 0 where
   pub rule : asked_line (Err (Denied rule.Smap)) ≡ codes "denied smap" ++ 10 ∷ []
   pub areas : answer_lines (answer.Listed (record { first = 0x1000; last = 0x1fff; frame = 0x6000; rights = 109 } ∷ []))
       ≡ (codes "areas 1" ++ 10 ∷ []) ∷ (codes "0x1000 0x1fff 0x6000 r-xr-xr-" ++ 10 ∷ []) ∷ []
+  pub zero : area_line (record { first = 0; last = 0xfff; frame = 0x5000; rights = 255 }) ≡ codes "0x0 0xfff 0x5000 rwxrwxrw" ++ 10 ∷ []
   pub too_large : answer_lines answer.ListTooLarge ≡ (codes "areas too large" ++ 10 ∷ []) ∷ []
   pub yes : answer_lines (answer.Verdict []) ≡ (codes "point yes" ++ 10 ∷ []) ∷ []
   pub no : answer_lines (answer.Verdict (record { cpu = 1; pcid = 2; page = 0x1000; frame = 0x6000; excess = 0 } ∷ []))

@@ -13,3 +13,6 @@ mod refusals;
 pub use answers::{line, line_count};
 pub use fixed::{core_too_long, log_too_long, usage};
 pub use refusals::{Cause, core_refusal, log_refusal};
+
+#[cfg(test)]
+mod tests;

@@ -13,15 +13,19 @@ use history_model::faults::StepFault;
 use paging_model::byte_strings::Text;
 use paging_model::registers::RegRule;
 use std::alloc::{AllocError, Global};
+use thiserror::Error;
 
-/// Why a line of a log is refused.
-#[derive(Clone, Copy, Debug, PartialEq, Eq)]
+/// Why a line of a log is refused. It is printed as the program's lines have it.
+#[derive(Clone, Copy, Debug, PartialEq, Eq, Error)]
 pub enum Cause {
     /// The line has more than 8,300 bytes.
+    #[error("too long")]
     TooLong,
     /// The line has none of the forms.
+    #[error("syntax")]
     Syntax,
     /// The line's event is refused.
+    #[error("{0}")]
     Step(StepFault),
 }
 

@@ -11,6 +11,7 @@ returns c = record {
   not_canonical = refl;
   rule = refl;
   areas = refl;
+  zero = refl;
   too_large = refl;
   yes = refl;
   no = refl;

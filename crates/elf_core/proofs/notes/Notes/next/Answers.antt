@@ -1,5 +1,4 @@
 use Rattle.std.proofs.Common.{sym, ◌∙◌, ap}
-use Rattle.elf_core.specs.NoteViews.{parts}
 use Rattle.elf_core.specs.Notes.{note_before, all_notes}
 use Rattle.elf_core.proofs.NoteLists.{all_notes-short, all_notes-long}
 use Rattle.elf_core.proofs.notes.Notes.next.Goals as goal
