@@ -4,6 +4,7 @@ pub mod Finishing
 pub mod HandledLines
 pub mod Jobs
 pub mod LineEnds
+pub mod LinesInTurn
 pub mod LogReading
 pub mod Outcomes
 pub mod PutPieces

@@ -2,8 +2,10 @@ pub mod Arguments
 pub mod Ends
 pub mod HandledLines
 pub mod Jobs
+pub mod LineByLine
 pub mod Outcome
 pub mod Reads
 pub mod Run
 pub mod Statuses
 pub mod Stopping
+pub mod WorkedOutcomes

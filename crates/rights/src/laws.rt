@@ -1,11 +1,13 @@
-//! What a run may write is single, and what was written at a fault begins it: laws of outcomes.
+//! What a run may write is single, goes line by line, and begins with what was written at a fault: laws of outcomes.
 //!
 //! Each function is a law: its `ensures` is the statement, and its body is empty.
 
-ghost use Rattle.std.specs.Prelude.{◌≡◌, ℕ, List, Option};
+ghost use Rattle.std.specs.Prelude.{◌≡◌, ℕ, Bool, List, Option};
+ghost use Rattle.history_model.specs.History.{History};
 ghost use Rattle.rights.specs.Ends.{AddsPrefix, AddsTruncated, Ends};
 ghost use Rattle.rights.specs.Jobs.{IsOutcomeOf, Job};
-ghost use Rattle.rights.specs.Outcome.{Outcome};
+ghost use Rattle.rights.specs.LineByLine.{SaysLineByLine};
+ghost use Rattle.rights.specs.Outcome.{Outcome, SaysLog};
 ghost use Rattle.rights.specs.Run.{IsOutcome};
 
 use crate::statuses::Status;
@@ -14,6 +16,13 @@ use crate::statuses::Status;
 pub fn a_core_and_a_log_have_one_outcome()
     ensures { (core log : List ℕ) (one other : Outcome)
         → IsOutcome core log one → IsOutcome core log other → one ≡ other }
+{}
+
+/// What is written for a log goes line by line: each line is skipped, refused, or answered and followed by what is
+/// written for the next ones in the moment after it.
+pub fn a_log_is_answered_line_by_line()
+    ensures { (start : History) (more : Bool) (bytes : List ℕ) (outcome : Outcome)
+        → SaysLog start more bytes outcome → SaysLineByLine start more bytes outcome }
 {}
 
 /// Where an outcome exists, what was put before a put failed begins it: whole lines, and of the next one a prefix of

@@ -2,31 +2,40 @@
 //!
 //! The program is the top call `run` over the host's files and standard output. Its exit status is that of the call, 6
 //! where the rest of the output isn't taken, or 9 where it can't get its arguments.
+//!
+//! No clause can speak of what `main` has from the host, nor of the exit status that it hands back:
+//! `tools/test_program.py` runs the built program to see them.
 #![tactic(auto)]
 
-ghost use Rattle.std.specs.Prelude.{◌≡◌, ◌≢◌, ◌⊎◌, ◌<◌, ℕ, List};
-ghost use Rattle.rights.specs.Arguments.{HasNoForm, IsRun};
-ghost use Rattle.rights.specs.Ends.{Ends};
+ghost use Rattle.std.specs.Prelude.{◌≡◌, ◌≢◌, ◌⊎◌, ◌<◌, ◌≤◌, ℕ, List, [], None};
+ghost use Rattle.outside.specs.Count.{Rose};
+ghost use Rattle.outside.specs.Shelf.{has_bytes};
+ghost use Rattle.outside.specs.WriterSink.{waiting_bytes, write_fault_count};
+ghost use Rattle.rights.specs.Arguments.{form_of as form_of_texts, texts, HasNoForm, IsNamed, IsRun};
+ghost use Rattle.rights.specs.Ends.{AddsOutcome, Ends};
 ghost use Rattle.rights.specs.Jobs.{one_line};
-ghost use Rattle.rights.specs.Run.{EndsForFiles, EndsWith, IsUnread};
+ghost use Rattle.rights.specs.Reads.{FailedToRead, FailsOnlyBy, ReadsOnly};
+ghost use Rattle.rights.specs.Run.{EndsForFiles, EndsWith, IsAccepted, IsUnread, job_of};
 ghost use Rattle.rights_report.specs.FixedLines.{usage_line};
 
 mod answering;
 mod arguments;
+mod examples;
 mod laws;
 mod program;
 mod statuses;
 mod stopping;
 
-use outside::{FileShelf, Shelf, Sink, StreamSink};
+use outside::{Failed, FileShelf, HostFiles, Shelf, Sink, WriterSink};
 use phys_view::{Steps, Uncounted};
 use program::run;
 use statuses::Status;
 use std::alloc::{AllocError, Global};
-use std::env;
+use std::io::Write;
 use std::marker::Brand;
 use std::process::ExitCode;
 use std::sync::ledger::{Blank, Ledger as Books};
+use std::{env, io};
 
 /// The exit status where the program can't get its arguments.
 const NO_ARGUMENTS: u8 = 9;
@@ -39,14 +48,9 @@ fn main(rt: HostRuntime) -> ExitCode {
     let Ok(arguments) = as_strs(alloc, &owned) else {
         return ExitCode::from(NO_ARGUMENTS);
     };
-    let mut shelf = FileShelf::new(rt);
-    let mut out = StreamSink::new(alloc, rt);
-    let code = run_uncounted(alloc, &arguments, &mut shelf, &mut out);
-    // What was put goes out, however the run ends.
-    match out.flush() {
-        Ok(()) => ExitCode::from(code),
-        Err(_) => ExitCode::from(Status::WriteFailed.code()),
-    }
+    let mut shelf = FileShelf::new(alloc, HostFiles::new(rt));
+    let mut out = WriterSink::new(alloc, io::writer(&rt));
+    ExitCode::from(run_and_flush(alloc, &arguments, &mut shelf, &mut out))
 }
 
 /// The arguments after the program's name; none where one isn't text, or where memory ran out.
@@ -62,7 +66,56 @@ fn as_strs(alloc: Global, arguments: &[String]) -> Result<Vec<&str>, AllocError>
     arguments.iter().map(|one| one.as_str()).collect(alloc)
 }
 
+/// A run, and then the flush of its output: what was put is written, however the run ends.
+fn run_and_flush<S: Shelf, W: Write>(
+    alloc: Global,
+    arguments: &[&str],
+    shelf: &mut S,
+    out: &mut WriterSink<W>,
+) -> u8
+    // The status is that of the run, or 6.
+    ensures usage { HasNoForm arguments.now → EndsWith result (λ status.
+        (status ≡ Status.Usage) ⊎ (status ≡ Status.WriteFailed)) }
+    ensures outcome { (core log : List ℕ) → IsRun arguments.now core log
+        → EndsWith result (λ status. (status ≡ Status.WriteFailed)
+        ⊎ ((status ≢ Status.Usage) × (IsUnread None None status
+        ⊎ EndsForFiles (S.known shelf.old core) (S.known shelf.old log) None None status))) }
+    ensures causes { EndsWith result (FailsOnlyBy
+        ((core log : List ℕ) × IsRun arguments.now core log
+        × FailedToRead (S.known shelf.old) (S.faults shelf.old) (S.faults shelf.new) core log)
+        (Rose (write_fault_count out.old) (write_fault_count out.new))) }
+    ensures complete { (core log core_bytes log_bytes : List ℕ) → IsRun arguments.now core log
+        → S.known shelf.old core ≡ has_bytes core_bytes
+        → S.known shelf.old log ≡ has_bytes log_bytes
+        → ¬ Rose (S.faults shelf.old core) (S.faults shelf.new core)
+        → ¬ Rose (S.faults shelf.old log) (S.faults shelf.new log)
+        → ¬ Rose (write_fault_count out.old) (write_fault_count out.new)
+        → EndsWith result (λ status. AddsOutcome (job_of core_bytes log_bytes) None None status
+        ⊎ (status ≡ Status.OutOfMemory)) }
+    ensures reads { ReadsOnly (IsNamed (form_of_texts (texts arguments.now)))
+        (S.known shelf.old) (S.known shelf.new) (S.reach shelf.old) (S.reach shelf.new)
+        (S.faults shelf.old) (S.faults shelf.new) }
+    ensures log_unread { (core log bytes : List ℕ)
+        → IsRun arguments.now core log → S.known shelf.old core ≡ has_bytes bytes
+        → ¬ IsAccepted bytes → log ≢ core
+        → S.reach shelf.new log ≡ S.reach shelf.old log }
+
+    // With another status than 6, nothing waits to be written.
+    ensures flushed { EndsWith result (λ status.
+        (status ≡ Status.WriteFailed) ⊎ (waiting_bytes out.new ≡ [])) }
+{
+    let code = run_uncounted(alloc, arguments, shelf, out);
+    match out.flush() {
+        Ok(()) => code,
+        Err(Failed) => Status::WriteFailed.code(),
+    }
+}
+
 /// A run whose steps nobody counts.
+///
+/// The clauses are those of [`run`]. The program has two functions of its own where `phys_view::answer_of` makes a
+/// counter for a reader: what a reader `gives` is said of its answer alone, and the clauses of a run speak of the shelf
+/// and the output after it.
 fn run_uncounted<S: Shelf, K: Sink>(
     alloc: Global,
     arguments: &[&str],
@@ -77,6 +130,27 @@ fn run_uncounted<S: Shelf, K: Sink>(
         × (IsUnread (K.pieces out.old) (K.pieces out.new) status
         ⊎ EndsForFiles (S.known shelf.old core) (S.known shelf.old log)
         (K.pieces out.old) (K.pieces out.new) status)) }
+    ensures causes { EndsWith result (FailsOnlyBy
+        ((core log : List ℕ) × IsRun arguments.now core log
+        × FailedToRead (S.known shelf.old) (S.faults shelf.old) (S.faults shelf.new) core log)
+        (Rose (K.faults out.old) (K.faults out.new))) }
+    ensures complete { (core log core_bytes log_bytes : List ℕ) → IsRun arguments.now core log
+        → S.known shelf.old core ≡ has_bytes core_bytes
+        → S.known shelf.old log ≡ has_bytes log_bytes
+        → ¬ Rose (S.faults shelf.old core) (S.faults shelf.new core)
+        → ¬ Rose (S.faults shelf.old log) (S.faults shelf.new log)
+        → ¬ Rose (K.faults out.old) (K.faults out.new)
+        → EndsWith result (λ status.
+        AddsOutcome (job_of core_bytes log_bytes) (K.pieces out.old) (K.pieces out.new) status
+        ⊎ (status ≡ Status.OutOfMemory)) }
+    ensures reads { ReadsOnly (IsNamed (form_of_texts (texts arguments.now)))
+        (S.known shelf.old) (S.known shelf.new) (S.reach shelf.old) (S.reach shelf.new)
+        (S.faults shelf.old) (S.faults shelf.new) }
+    ensures log_unread { (core log bytes : List ℕ)
+        → IsRun arguments.now core log → S.known shelf.old core ≡ has_bytes bytes
+        → ¬ IsAccepted bytes → log ≢ core
+        → S.reach shelf.new log ≡ S.reach shelf.old log }
+    ensures write_count { K.faults out.old ≤ K.faults out.new }
 {
     run_with::<S, K, Brand>(alloc, arguments, shelf, out, Blank::new(1))
 }
@@ -100,6 +174,27 @@ fn run_with<S: Shelf, K: Sink, B: Books>(
         × (IsUnread (K.pieces out.old) (K.pieces out.new) status
         ⊎ EndsForFiles (S.known shelf.old core) (S.known shelf.old log)
         (K.pieces out.old) (K.pieces out.new) status)) }
+    ensures causes { EndsWith result (FailsOnlyBy
+        ((core log : List ℕ) × IsRun arguments.now core log
+        × FailedToRead (S.known shelf.old) (S.faults shelf.old) (S.faults shelf.new) core log)
+        (Rose (K.faults out.old) (K.faults out.new))) }
+    ensures complete { (core log core_bytes log_bytes : List ℕ) → IsRun arguments.now core log
+        → S.known shelf.old core ≡ has_bytes core_bytes
+        → S.known shelf.old log ≡ has_bytes log_bytes
+        → ¬ Rose (S.faults shelf.old core) (S.faults shelf.new core)
+        → ¬ Rose (S.faults shelf.old log) (S.faults shelf.new log)
+        → ¬ Rose (K.faults out.old) (K.faults out.new)
+        → EndsWith result (λ status.
+        AddsOutcome (job_of core_bytes log_bytes) (K.pieces out.old) (K.pieces out.new) status
+        ⊎ (status ≡ Status.OutOfMemory)) }
+    ensures reads { ReadsOnly (IsNamed (form_of_texts (texts arguments.now)))
+        (S.known shelf.old) (S.known shelf.new) (S.reach shelf.old) (S.reach shelf.new)
+        (S.faults shelf.old) (S.faults shelf.new) }
+    ensures log_unread { (core log bytes : List ℕ)
+        → IsRun arguments.now core log → S.known shelf.old core ≡ has_bytes bytes
+        → ¬ IsAccepted bytes → log ≢ core
+        → S.reach shelf.new log ≡ S.reach shelf.old log }
+    ensures write_count { K.faults out.old ≤ K.faults out.new }
 {
     let mut steps = Steps::new(Uncounted::<B>::new(blank));
     run(alloc, arguments, shelf, out, &mut steps)

@@ -75,6 +75,59 @@ fn a_line_of_more_than_8300_bytes_is_refused(rt: HostRuntime) -> Result<(), Fail
     Ok(())
 }
 
+/// No contract says that memory suffices: for the longest line, a long log, the most processors and their numbers.
+#[test]
+fn a_write_of_4096_bytes_is_read(rt: HostRuntime) -> Result<(), Fail> {
+    let core = example_core(rt.alloc())?;
+    let digits = vec![in rt.alloc(); b'5'; 8_192]?;
+    let mut log = b"write 0x0 ".to_vec(rt.alloc())?;
+    log.extend_from_slice(&digits)?;
+    let (written, code) = outcome(rt.alloc(), &core, &log)?;
+    assert_eq!(rt;
+        written.as_slice(),
+        b"line 1 refused: not built\n".as_slice()
+    );
+    assert_eq!(rt; code, 4);
+    Ok(())
+}
+
+#[test]
+fn a_log_of_several_megabytes_is_answered(rt: HostRuntime) -> Result<(), Fail> {
+    let core = example_core(rt.alloc())?;
+    let mut log = vec![in rt.alloc(); b'\n'; 5_000_000]?;
+    log.extend_from_slice(b"ask 0 sr 0x1234\nask\n")?;
+    let (written, code) = outcome(rt.alloc(), &core, &log)?;
+    assert_eq!(rt;
+        written.as_slice(),
+        b"granted 0x6234\nline 5000002 refused: syntax\n".as_slice()
+    );
+    assert_eq!(rt; code, 4);
+    Ok(())
+}
+
+#[test]
+fn sixty_four_processors_of_any_numbers_are_answered(rt: HostRuntime) -> Result<(), Fail> {
+    let alloc = rt.alloc();
+    let core = foreign_core(alloc)?;
+    let mut numbers: Vec<u32> = (0..63u32).map(|index| index << 26).collect(alloc)?;
+    numbers.push(u32::MAX)?;
+    let mut log = Vec::new(alloc);
+    let mut text = Vec::new(alloc);
+    for number in &numbers {
+        let line = format!(in alloc; "cpu {number} 0x80010001 0x1000 0x20 0xd00 0x2 0x0 0x0\n")?;
+        log.extend_from_slice(line.as_bytes())?;
+    }
+    for number in &numbers {
+        let line = format!(in alloc; "ask {number} ur 0x0\n")?;
+        log.extend_from_slice(line.as_bytes())?;
+        text.extend_from_slice(b"granted 0x5000\n")?;
+    }
+    let (written, code) = outcome(alloc, &core, &log)?;
+    assert!(rt; written.as_slice() == text.as_slice());
+    assert_eq!(rt; code, 0);
+    Ok(())
+}
+
 #[test]
 fn the_walk_reads_the_tables_of_the_core(rt: HostRuntime) -> Result<(), Fail> {
     let ask = b"ask 0 sr 0x1234\n".as_slice();
@@ -309,5 +362,23 @@ fn faults_end_a_run(rt: HostRuntime) -> Result<(), Fail> {
     assert_eq!(rt; out.bytes(), b"".as_slice());
     assert_eq!(rt; run_uncounted(alloc, &words, &mut shelf, &mut out), 0);
     assert_eq!(rt; out.bytes(), b"granted 0x5000\n".as_slice());
+    Ok(())
+}
+
+#[test]
+fn a_run_writes_all_that_was_put(rt: HostRuntime) -> Result<(), Fail> {
+    let alloc = rt.alloc();
+    let mut shelf = MemShelf::new(alloc);
+    shelf.add("core", &example_core(alloc)?)?;
+    shelf.add("log", b"ask 0 sr 0x0\nask 0 sr 0x1234\n")?;
+    let mut written = Vec::new(alloc);
+    let mut out = WriterSink::new(alloc, &mut written);
+    let status = run_and_flush(alloc, &["run", "core", "log"], &mut shelf, &mut out);
+    drop(out);
+    assert_eq!(rt; status, 0);
+    assert_eq!(rt;
+        written.as_slice(),
+        b"granted 0x5000\ngranted 0x6234\n".as_slice()
+    );
     Ok(())
 }
