@@ -6,8 +6,8 @@ each name that a section gives stands in a file that the section links, that eac
 file of definitions with every public name in it, and that the page's laws are those that are proved. With --write it
 writes the index anew.
 
-The files of definitions are those of the model's two crates, and of three others those that say what a log is, what is
-written for it, and how a run ends.
+The files of definitions are those of the model's two crates, and of others those that say what a core states, what a log
+is, what a session stands for, what is written for them, how a run ends, and what an event costs.
 """
 
 import re
@@ -20,9 +20,12 @@ PAGE = ROOT / "docs" / "MODEL.md"
 CRATES = {
     "paging_model": (),
     "history_model": (),
+    "history_laws": ("Costs",),
+    "elf_core": ("Cores", "Fields", "FileHeader", "Notes", "ProgramHeaders", "StateNotes"),
     "edit_log": ("Log", "LogLine", "Numbers"),
+    "audit_core": ("Standing",),
     "rights_report": (),
-    "rights": ("HandledLines", "Outcome", "Statuses"),
+    "rights": ("Arguments", "HandledLines", "Jobs", "LineByLine", "Outcome", "Run", "Statuses"),
 }
 HEADING = "## Where each definition stands"
 DEFINED = re.compile(r"^ *(?:(?:abbrev|unfoldable) pub|pub (?:data|record|unfoldable|abbrev)) (\w+)", re.M)

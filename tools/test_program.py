@@ -1,0 +1,419 @@
+#!/usr/bin/env python3
+"""Runs the built program, and compares each run's exit status and its output byte for byte.
+
+    test_program.py [PROGRAM ...]
+
+Without names it runs what `rt ci` leaves: crates/rights/out/rights, and beside it rights.by-rattle, which Rattle's own
+compiler made. `./rights` leaves the first of them. It prints each run that ended otherwise and ends with 1 then, and
+where there is no program to run.
+
+No contract speaks of this part: that the program's arguments, files and output are those of the host, and that its exit
+status is that of the run. Expected output is worked out here, from the page tables that each test writes.
+"""
+import os
+import resource
+import signal
+import struct
+import subprocess
+import sys
+import tempfile
+import unittest
+from pathlib import Path
+
+from make_example import (
+    NOTES_OFFSET,
+    NOTES_SIZE,
+    SEGMENT_OFFSET,
+    file_header,
+    machine_note,
+    page_tables,
+    processor_note,
+    program_header,
+    state_note,
+)
+
+CRATE = Path(__file__).resolve().parent.parent / "crates" / "rights"
+BUILT = [CRATE / "out" / "rights", CRATE / "out" / "rights.by-rattle"]
+
+USAGE = b"usage: run CORE LOG | check CORE | gen SEED COUNT\n"
+MEBIBYTE = 1 << 20
+NOBODY = 65534
+
+# Bits of an entry: present, writes allowed, user accesses allowed, large page, execute-disable.
+P, W, U, PS, XD = 1, 2, 4, 1 << 7, 1 << 63
+
+# The programs to run, and how many runs there were.
+programs = []
+runs = 0
+
+
+def segment_core(size, machine=machine_note()):
+    """A core of one segment of so many bytes, up to where they begin."""
+    notes = machine + processor_note()
+    headers = program_header(4, NOTES_OFFSET, NOTES_SIZE) + program_header(1, SEGMENT_OFFSET, size)
+    return file_header() + headers + notes
+
+
+def paged_core(pages, machine=machine_note()):
+    """A core whose page tables give each page of the lowest GByte an entry of level 1, from the first page on.
+
+    The top tables stand at 0x1000, 0x2000 and 0x3000, and the tables of level 1 from 0x10000 on.
+    """
+    tables = -(-len(pages) // 512)
+    memory = bytearray(0x10000 + 4096 * tables)
+    struct.pack_into("<Q", memory, 0x1000, 0x2000 | U | W | P)
+    struct.pack_into("<Q", memory, 0x2000, 0x3000 | U | W | P)
+    for table in range(tables):
+        struct.pack_into("<Q", memory, 0x3000 + 8 * table, 0x10000 + 4096 * table | U | W | P)
+    # A 2-MByte page with a reserved bit, and a table that the core doesn't hold.
+    struct.pack_into("<Q", memory, 0x3000 + 8 * 510, 0x2000 | PS | U | W | P)
+    struct.pack_into("<Q", memory, 0x3000 + 8 * 511, 0x7F000000 | U | W | P)
+    struct.pack_into(f"<{len(pages)}Q", memory, 0x10000, *pages)
+    return segment_core(len(memory), machine) + memory
+
+
+# A machine with 52 physical-address bits, and a core with a page at 0 and at each power of 16 from 0x1000 on, then a
+# page without writes, one with execute-disable, one of protection key 1, and a supervisor's page.
+WIDE = state_note(1, struct.pack("<II", 52, 1))
+POWERS = [0] + [16**digits for digits in range(3, 13)]
+READ_ONLY, NO_FETCH, KEYED, SUPERVISOR = range(len(POWERS), len(POWERS) + 4)
+PAGES = [power | U | W | P for power in POWERS]
+PAGES += [0x5000 | U | P, 0x5000 | XD | U | W | P, 0x5000 | 1 << 59 | U | W | P, 0x5000 | W | P]
+
+
+def granted(digits):
+    """An ask, and its line of so many hexadecimal digits: it has 11 bytes more, with its LF."""
+    address = 16 ** (digits - 1) if digits > 1 else 7
+    page = POWERS.index(address) if address in POWERS else 0
+    pointer = page << 12 if address in POWERS else address
+    return b"ask 0 ur 0x%x\n" % pointer, b"granted 0x%x\n" % address
+
+
+def joined(pairs):
+    """The log and the output of lines."""
+    return b"".join(line for line, _ in pairs), b"".join(text for _, text in pairs)
+
+
+# Every answer that an ask can have in four levels: lines of 10 to 24 bytes, all that there are.
+ANSWERS = [granted(digits) for digits in range(1, 14)]
+ANSWERS += [
+    (b"ask 0 uw 0x%x000\n" % READ_ONLY, b"denied write\n"),
+    (b"ask 0 sx 0x%x000\n" % NO_FETCH, b"denied xd\n"),
+    (b"ask 0 ur 0x%x000\n" % SUPERVISOR, b"denied user\n"),
+    (b"ask 0 sr 0x%x000\n" % len(PAGES), b"denied absent 1\n"),
+    (b"ask 0 sr 0x3fc00000\n", b"denied reserved 2\n"),
+    (b"ask 0 sr 0x3fe00000\n", b"denied unknown 1\n"),
+    (b"ask 0 sr 0x800000000000\n", b"denied not-canonical\n"),
+    (b"set 0 cr4 0x300020\nask 0 sx 0x0\n", b"denied smep\n"),
+    (b"ask 0 sr 0x0\n", b"denied smap\n"),
+    (b"set 0 cr4 0x8000020\nask 0 sx 0x0\n", b"denied lass\n"),
+    (b"set 0 cr4 0x400020\nset 0 pkru 0x4\nask 0 ur 0x%x000\n" % KEYED, b"denied key\n"),
+]
+
+
+def limited(kind, most):
+    """Sets a limit in the program's process. A write past a limit of a file's size then fails and sends no signal."""
+
+    def limit():
+        signal.signal(signal.SIGXFSZ, signal.SIG_IGN)
+        resource.setrlimit(kind, (most, most))
+
+    return limit
+
+
+def become_nobody():
+    """Leaves root, who may read every file, in the program's process."""
+    os.setgroups([])
+    os.setgid(NOBODY)
+    os.setuid(NOBODY)
+
+
+class Program(unittest.TestCase):
+    """Runs in a new folder, which holds the files that a test writes."""
+
+    def setUp(self):
+        room = tempfile.TemporaryDirectory()
+        self.addCleanup(room.cleanup)
+        self.room = Path(room.name)
+
+    def write(self, name, start, size=None):
+        """Writes a file that begins so, and has zeros up to its size."""
+        with open(self.room / name, "wb") as file:
+            file.write(start)
+            if size is not None:
+                file.truncate(size)
+
+    def write_example(self):
+        for name in ("example.core", "example.log"):
+            self.write(name, (CRATE / "data" / name).read_bytes())
+
+    def run_one(self, program, words, output, limit=None):
+        global runs
+        runs += 1
+        words = [program, *words]
+        return subprocess.run(
+            words,
+            cwd=self.room,
+            stdin=subprocess.DEVNULL,
+            stdout=output,
+            stderr=subprocess.PIPE,
+            preexec_fn=limit,
+            timeout=100,
+            check=False,
+        )
+
+    def ends(self, words, status, text=b"", limit=None):
+        """Each program ends with a status, and writes a text to a pipe."""
+        for program in programs:
+            done = self.run_one(program, words, subprocess.PIPE, limit)
+            self.same(program, words, done, status, done.stdout, text)
+
+    def ends_in(self, opened, words, status, text=b"", limit=None):
+        """Each program ends with a status, and writes a text to what is opened for it; a name is of a new file."""
+        for program in programs:
+            with open(self.room / opened, "wb") if isinstance(opened, str) else opened() as output:
+                done = self.run_one(program, words, output, limit)
+            written = (self.room / opened).read_bytes() if isinstance(opened, str) else b""
+            self.same(program, words, done, status, written, text)
+
+    def same(self, program, words, done, status, written, text):
+        what = f"{program} {words}"
+        self.assertEqual(done.returncode, status, f"the exit status of {what}; {describe(written, text)}")
+        self.assertEqual(done.stderr, b"", f"standard error of {what}")
+        self.assertTrue(written == text, f"the output of {what}: {describe(written, text)}")
+
+
+def describe(written, text):
+    """Where what was written is another text."""
+    if written == text:
+        return "the output is as it must be"
+    at = next((at for at, (one, other) in enumerate(zip(written, text)) if one != other), min(len(written), len(text)))
+    pieces = f"{written[at : at + 40]!r} and not {text[at : at + 40]!r}"
+    return f"{len(written)} bytes and not {len(text)}; from byte {at} on {pieces}"
+
+
+class Statuses(Program):
+    def test_0_the_example(self):
+        self.write_example()
+        words = (CRATE / "args").read_text().split()
+        self.ends(words, 0, (CRATE / "stdout").read_bytes())
+
+    def test_0_a_log_without_asks(self):
+        self.write_example()
+        self.write("log", b"# nothing\n\nset 0 ac 1")
+        self.ends(["run", "example.core", "log"], 0)
+
+    def test_2_words_of_no_form(self):
+        self.write_example()
+        core, log = "example.core", "example.log"
+        for words in (
+            [],
+            ["run"],
+            ["run", core],
+            ["walk", core, log],
+            ["", core, log],
+            ["run", core, log, ""],
+            ["run", core, log, log],
+            ["run", core, log, log, log],
+            ["check", core],
+        ):
+            self.ends(words, 2, USAGE)
+
+    def test_3_a_refused_core(self):
+        core = segment_core(65536) + page_tables()
+        self.write("log", b"ask 0 ur 0x0\n")
+        for start, why in (
+            (b"", b"short"),
+            (core[:63], b"short"),
+            (b"\x7fELG" + core[4:], b"not elf"),
+            (core[:-1], b"segment range 1"),
+        ):
+            self.write("core", start)
+            self.ends(["run", "core", "log"], 3, b"core refused: " + why + b"\n")
+            self.ends(["run", "core", "no log"], 3, b"core refused: " + why + b"\n")
+
+    def test_4_a_refused_line(self):
+        self.write_example()
+        for log, text in (
+            (b"ask 0 ur 0x0\nlist 0\nask 0 ur 0x0\n", b"granted 0x5000\nline 2 refused: not built\n"),
+            (b"ask 7 ur 0x0\n", b"line 1 refused: no processor 7\n"),
+            (b"ask 0 ur 0x0\nask 0 ur  0x0", b"granted 0x5000\nline 2 refused: syntax\n"),
+            (b"#" * 8301, b"line 1 refused: too long\n"),
+        ):
+            self.write("log", log)
+            self.ends(["run", "example.core", "log"], 4, text)
+
+    def test_5_no_such_file(self):
+        self.write_example()
+        self.ends(["run", "no core", "example.log"], 5)
+        self.ends(["run", "example.core", "no log"], 5)
+        self.ends(["run", "example.core", "example.log/"], 5)
+        self.ends(["run", "", "example.log"], 5)
+
+    def test_5_a_folder(self):
+        self.write_example()
+        self.ends(["run", ".", "example.log"], 5)
+        self.ends(["run", "example.core", "."], 5)
+
+    def test_5_a_file_without_leave(self):
+        self.write_example()
+        limit = None
+        if os.geteuid() == 0:
+            # Root may read every file, so the program runs as nobody, from a copy that nobody can reach.
+            limit = become_nobody
+            self.room.chmod(0o755)
+        for number, program in enumerate(programs):
+            copy = self.room / f"program-{number}"
+            copy.write_bytes(program.read_bytes())
+            copy.chmod(0o755)
+            for closed in ("example.core", "example.log"):
+                (self.room / closed).chmod(0)
+                try:
+                    done = self.run_one(copy, ["run", "example.core", "example.log"], subprocess.PIPE, limit)
+                except (subprocess.SubprocessError, PermissionError) as error:
+                    self.skipTest(f"this root can't run a program as nobody: {error}")
+                (self.room / closed).chmod(0o644)
+                self.same(copy, closed, done, 5, done.stdout, b"")
+
+    def test_6_a_full_device(self):
+        self.write_example()
+        self.write("many", b"ask 0 ur 0x0\n" * 30_000)
+        self.write("bad", b"ask\n")
+        full = lambda: open("/dev/full", "wb")
+        self.ends_in(full, ["run", "example.core", "example.log"], 6)
+        self.ends_in(full, ["run", "example.core", "many"], 6)
+        self.ends_in(full, ["run", "example.core", "bad"], 6)
+        self.ends_in(full, ["run", "example.log", "bad"], 6)
+        self.ends_in(full, [], 6)
+        # Nothing is written where nothing is asked, or no file is read.
+        self.write("log", b"")
+        self.ends_in(full, ["run", "example.core", "log"], 0)
+        self.ends_in(full, ["run", "no core", "log"], 5)
+
+    def test_6_a_closed_pipe(self):
+        self.write_example()
+        self.write("many", b"ask 0 ur 0x0\n" * 30_000)
+
+        def closed():
+            reader, writer = os.pipe()
+            os.close(reader)
+            return os.fdopen(writer, "wb")
+
+        self.ends_in(closed, ["run", "example.core", "example.log"], 6)
+        self.ends_in(closed, ["run", "example.core", "many"], 6)
+        self.ends_in(closed, [], 6)
+
+    def test_6_a_file_that_takes_a_part(self):
+        self.write("core", paged_core(PAGES, WIDE))
+        # 4,096 lines of 16 bytes are written at once, and the last two by the flush.
+        log, text = joined([granted(5)] * 4098)
+        self.write("log", log)
+        for most in (0, 1, 16, 65_535, 65_536, 65_537, 65_552, 65_567):
+            limit = limited(resource.RLIMIT_FSIZE, most)
+            self.ends_in("output", ["run", "core", "log"], 6, text[:most], limit)
+        limit = limited(resource.RLIMIT_FSIZE, len(text))
+        self.ends_in("output", ["run", "core", "log"], 0, text, limit)
+
+    def test_7_out_of_memory(self):
+        self.write_example()
+        size = 256 * MEBIBYTE
+        self.write("core", segment_core(size - SEGMENT_OFFSET), size)
+        self.write("log", b"ask 0 ur 0x0\n", size)
+        limit = limited(resource.RLIMIT_AS, 64 * MEBIBYTE)
+        self.ends(["run", "core", "example.log"], 7, limit=limit)
+        self.ends(["run", "example.core", "log"], 7, limit=limit)
+        self.ends(["run", "example.core", "example.log"], 0, (CRATE / "stdout").read_bytes(), limit)
+
+    def test_9_arguments_that_are_no_text(self):
+        self.write_example()
+        self.ends([b"run", b"example.core", b"\xff"], 9)
+        self.ends([b"\xc3"], 9)
+
+
+class Files(Program):
+    def test_every_place_of_a_large_core_and_log(self):
+        count = 1 << 18
+        frames = [(index * 0x5851F42D + 12345) % (1 << 28) for index in range(count)]
+        core = paged_core([frame << 12 | U | W | P for frame in frames])
+        lines, text = [], []
+        # Each page once, in no order, by each kind of access; no two lines are the same, and no two frames.
+        for number in range(count - 2 * 512):
+            page = number * 0x2545F % (count - 2 * 512)
+            offset = number * 7919 % 4096
+            kind = (b"ur", b"uw", b"ux", b"sr", b"sw", b"sx", b"ir", b"iw")[number % 8]
+            lines.append(b"ask 0 %b 0x%x\n" % (kind, page << 12 | offset))
+            text.append(b"granted 0x%x\n" % (frames[page] << 12 | offset))
+        log = b"".join(lines)
+        self.assertGreater(min(len(core), len(log)), 2 * MEBIBYTE)
+        self.assertEqual(len(set(lines)), len(lines))
+        # The names have one length, and then they are each other's.
+        self.write("a.bin", core)
+        self.write("b.bin", log)
+        self.ends(["run", "a.bin", "b.bin"], 0, b"".join(text))
+        self.write("a.bin", log)
+        self.write("b.bin", core)
+        self.ends(["run", "b.bin", "a.bin"], 0, b"".join(text))
+        self.ends(["run", "a.bin", "b.bin"], 3, b"core refused: not elf\n")
+
+    def test_files_that_end_beside_a_buffer(self):
+        self.write("core", paged_core(PAGES, WIDE))
+        for size in (65_535, 65_536, 65_537, 131_072, 262_143, 262_144, 262_145, 524_288):
+            ask, answer = granted(13)
+            comments = (b"#" * 63 + b"\n") * (size // 64 + 1)
+            self.write("log", comments[: size - len(ask) - 1] + b"\n" + ask)
+            self.assertEqual((self.room / "log").stat().st_size, size)
+            self.ends(["run", "core", "log"], 0, answer)
+
+    def test_the_example_is_the_tools(self):
+        tool = Path(__file__).with_name("make_example.py")
+        subprocess.run([sys.executable, "-B", tool, self.room / "core"], check=True)
+        self.assertEqual((self.room / "core").read_bytes(), (CRATE / "data" / "example.core").read_bytes())
+
+
+class Output(Program):
+    def test_lines_of_every_length(self):
+        self.write("core", paged_core(PAGES, WIDE))
+        self.assertEqual({len(text) for _, text in ANSWERS}, set(range(10, 25)))
+        log, text = joined(ANSWERS)
+        self.write("log", log)
+        self.ends(["run", "core", "log"], 0, text)
+        # Many times over, so that each length stands at the end of a buffer somewhere.
+        log, text = joined((ANSWERS + [(b"set 0 cr4 0x20\n", b"")]) * 5000)
+        self.write("log", log)
+        self.ends(["run", "core", "log"], 0, text)
+
+    def test_outputs_about_as_long_as_a_buffer(self):
+        self.write("core", paged_core(PAGES, WIDE))
+        for size in (65_535, 65_536, 65_537, 131_071, 131_072, 131_073):
+            rest = size - 16 * (size // 16 - 2)
+            pairs = [granted(5)] * (size // 16 - 2) + [granted(rest // 2 - 11), granted(rest - rest // 2 - 11)]
+            log, text = joined(pairs)
+            self.assertEqual(len(text), size)
+            self.write("log", log)
+            self.ends(["run", "core", "log"], 0, text)
+            self.ends_in("output", ["run", "core", "log"], 0, text)
+
+
+def say(text):
+    print(f"test_program: {text}", file=sys.stderr)
+
+
+def main():
+    named = [Path(word).resolve() for word in sys.argv[1:]]
+    programs.extend(named or [it for it in BUILT if it == BUILT[0] or it.exists()])
+    for program in programs:
+        if not os.access(program, os.X_OK) or not program.is_file():
+            say(f"there is no program {program}: `rt ci` builds it, and `./rights` does")
+            return 1
+    tests = unittest.defaultTestLoader.loadTestsFromModule(sys.modules[__name__])
+    result = unittest.TextTestRunner(verbosity=1).run(tests)
+    for test, why in result.skipped:
+        say(f"skipped {test}: {why}")
+    if not result.wasSuccessful() or runs == 0:
+        return 1
+    say(f"{runs} runs of {' and '.join(it.name for it in programs)} ended as they must")
+    return 0
+
+
+if __name__ == "__main__":
+    sys.exit(main())
