@@ -1,9 +1,11 @@
-//! The host's files, at the trusted edge: their bytes are unknown.
+//! The host's files and standard output, at the trusted edge: their bytes are unknown.
 
 use crate::opener::Opener;
 use crate::shelf::Failed;
+use crate::writer_sink::WriterSink;
 use std::fs;
 use std::fs::File;
+use std::io::Printer;
 use std::os::unix::fs::FileExt;
 
 /// The host's files: a name is a path.
@@ -44,3 +46,6 @@ impl Opener for HostFiles {
         file.read_at(into, at).map_err(|_| Failed)
     }
 }
+
+/// A sink over the host's standard output.
+pub type StreamSink<'a> = WriterSink<Printer<'a, HostRuntime>>;

@@ -2,7 +2,7 @@
 //!
 //! [`Shelf`] and [`Sink`] say what a program may rely on. [`MemShelf`] and [`MemSink`] keep all in memory and fail at
 //! listed calls. [`FileShelf`] reads the files of an [`Opener`], as of the host's [`HostFiles`], and [`WriterSink`]
-//! writes to a writer. [`read_all`] reads all bytes of a name, up to a limit.
+//! writes to a writer, as [`StreamSink`] to standard output. [`read_all`] reads all bytes of a name, up to a limit.
 #![tactic(auto)]
 
 mod buffered;
@@ -18,7 +18,7 @@ mod sink;
 mod writer_sink;
 
 pub use file_shelf::FileShelf;
-pub use host_files::HostFiles;
+pub use host_files::{HostFiles, StreamSink};
 pub use mem_shelf::MemShelf;
 pub use mem_sink::MemSink;
 pub use opener::Opener;

@@ -26,7 +26,7 @@ mod program;
 mod statuses;
 mod stopping;
 
-use outside::{Failed, FileShelf, HostFiles, Shelf, Sink, WriterSink};
+use outside::{Failed, FileShelf, HostFiles, Shelf, Sink, StreamSink, WriterSink};
 use phys_view::{Steps, Uncounted};
 use program::run;
 use statuses::Status;
@@ -49,7 +49,7 @@ fn main(rt: HostRuntime) -> ExitCode {
         return ExitCode::from(NO_ARGUMENTS);
     };
     let mut shelf = FileShelf::new(alloc, HostFiles::new(rt));
-    let mut out = WriterSink::new(alloc, io::writer(&rt));
+    let mut out: StreamSink<'_> = WriterSink::new(alloc, io::writer(&rt));
     ExitCode::from(run_and_flush(alloc, &arguments, &mut shelf, &mut out))
 }
 
