@@ -1,6 +1,6 @@
 //! The lines of an answer, each with its LF.
 
-ghost use Rattle.std.specs.Prelude.{◌≡◌, ◌<◌, ◌≤◌, [], ◌∷◌, IfOk, length, slice_index_or, string_bytes};
+ghost use Rattle.std.specs.Prelude.{◌≡◌, ◌<◌, ◌≤◌, [], ◌∷◌, ◌++◌, IfOk, OnOk, Some, length, slice_index_or, string_bytes};
 ghost use Rattle.history_model.specs.declared.answers.Answer.TheVariants.{Listed};
 ghost use Rattle.rights_report.specs.AnswerLines.{answer_lines, area_count_line, area_line, asked_line, finding_count_line, finding_line, finding_lines, no_finding_line, rule_text, too_large_line, verdict_lines};
 ghost use Rattle.rights_report.specs.Characters.{character_in, rights_text};
@@ -13,6 +13,7 @@ use paging_model::access_sets::Rights;
 use paging_model::byte_strings::Text;
 use paging_model::spaces::Area;
 use std::alloc::{AllocError, Global};
+use std::fmt;
 
 /// How many lines an answer has.
 pub fn line_count(answer: &Answer) -> u64
@@ -31,32 +32,42 @@ pub fn line(alloc: Global, answer: &Answer, i: u64) -> Result<Text, AllocError>
     requires { i < length (answer_lines answer.now) }
     ensures { IfOk result (λ text. text ≡ slice_index_or (answer_lines answer.now) i []) }
 {
+    let mut text = String::new(alloc);
+    write_line(&mut text, answer, i)?;
+    Ok(text_of(text))
+}
+
+/// Replaces a text by a line of an answer, by its index. Out of memory, what the text holds isn't said.
+pub fn write_line(text: &mut String, answer: &Answer, i: u64) -> Result<(), AllocError>
+    requires { i < length (answer_lines answer.now) }
+    ensures { OnOk result (string_bytes text.new ≡ slice_index_or (answer_lines answer.now) i []) }
+{
+    text.clear();
     match answer {
         Answer::Nothing => unreachable!(),
-        Answer::Asked(asked) => asked_text(alloc, *asked),
-        Answer::Listed(areas) => list_line(alloc, areas.as_slice(), i),
-        Answer::ListTooLarge => too_large(alloc),
-        Answer::Verdict(findings) => verdict_line(alloc, findings.as_slice(), i),
+        Answer::Asked(asked) => append_asked(text, *asked),
+        Answer::Listed(areas) => append_list_line(text, areas.as_slice(), i),
+        Answer::ListTooLarge => append_too_large(text),
+        Answer::Verdict(findings) => append_verdict_line(text, findings.as_slice(), i),
     }
 }
 
-/// The answer to an `ask`: the physical address, or why the access is denied.
-fn asked_text(alloc: Global, asked: Result<u64, Why>) -> Result<Text, AllocError>
-    ensures { IfOk result (λ text. text ≡ asked_line asked) }
+/// Appends the answer to an `ask`: the physical address, or why the access is denied.
+fn append_asked(text: &mut String, asked: Result<u64, Why>) -> Result<(), AllocError>
+    ensures { OnOk result (string_bytes text.new ≡ string_bytes text.old ++ asked_line asked) }
 {
-    let line = match asked {
-        Ok(address) => format!(in alloc; "granted 0x{address:x}\n")?,
-        Err(Why::NotCanonical) => format!(in alloc; "denied not-canonical\n")?,
-        Err(Why::Lass) => format!(in alloc; "denied lass\n")?,
-        Err(Why::Unknown(level)) => format!(in alloc; "denied unknown {level}\n")?,
-        Err(Why::Absent(level)) => format!(in alloc; "denied absent {level}\n")?,
-        Err(Why::Reserved(level)) => format!(in alloc; "denied reserved {level}\n")?,
+    match asked {
+        Ok(address) => writeln!(text, "granted 0x{address:x}"),
+        Err(Why::NotCanonical) => writeln!(text, "denied not-canonical"),
+        Err(Why::Lass) => writeln!(text, "denied lass"),
+        Err(Why::Unknown(level)) => writeln!(text, "denied unknown {level}"),
+        Err(Why::Absent(level)) => writeln!(text, "denied absent {level}"),
+        Err(Why::Reserved(level)) => writeln!(text, "denied reserved {level}"),
         Err(Why::Denied(rule)) => {
             let rule = rule_name(rule);
-            format!(in alloc; "denied {rule}\n")?
+            writeln!(text, "denied {rule}")
         }
-    };
-    Ok(text_of(line))
+    }
 }
 
 /// The name of a rule that denies an access.
@@ -73,46 +84,44 @@ fn rule_name(rule: Rule) -> &'static str
     }
 }
 
-/// A line of a listing, by its index.
-fn list_line(alloc: Global, areas: &[Area], i: u64) -> Result<Text, AllocError>
+/// Appends a line of a listing, by its index.
+fn append_list_line(text: &mut String, areas: &[Area], i: u64) -> Result<(), AllocError>
     requires { i ≤ length areas.now }
-    ensures { IfOk result (λ text. text ≡ slice_index_or (answer_lines (Listed areas.now)) i []) }
+    ensures { OnOk result (string_bytes text.new
+        ≡ string_bytes text.old ++ slice_index_or (answer_lines (Listed areas.now)) i []) }
 {
     match i.checked_sub(1) {
-        None => area_count(alloc, areas.len()),
-        Some(index) => area_text(alloc, &areas[index as usize]),
+        None => append_area_count(text, areas.len()),
+        Some(index) => append_area(text, &areas[index as usize]),
     }
 }
 
-/// The first line of a listing.
-fn area_count(alloc: Global, count: usize) -> Result<Text, AllocError>
-    ensures { IfOk result (λ text. text ≡ area_count_line count) }
+/// Appends the first line of a listing.
+fn append_area_count(text: &mut String, count: usize) -> Result<(), AllocError>
+    ensures { OnOk result (string_bytes text.new ≡ string_bytes text.old ++ area_count_line count) }
 {
-    let line = format!(in alloc; "areas {count}\n")?;
-    Ok(text_of(line))
+    writeln!(text, "areas {count}")
 }
 
-/// The answer to a `list` of a space that is too large.
-fn too_large(alloc: Global) -> Result<Text, AllocError>
-    ensures { IfOk result (λ text. text ≡ too_large_line) }
+/// Appends the answer to a `list` of a space that is too large.
+fn append_too_large(text: &mut String) -> Result<(), AllocError>
+    ensures { OnOk result (string_bytes text.new ≡ string_bytes text.old ++ too_large_line) }
 {
-    let line = format!(in alloc; "areas too large\n")?;
-    Ok(text_of(line))
+    writeln!(text, "areas too large")
 }
 
-/// The line of an area.
-fn area_text(alloc: Global, area: &Area) -> Result<Text, AllocError>
-    ensures { IfOk result (λ text. text ≡ area_line area.now) }
+/// Appends the line of an area.
+fn append_area(text: &mut String, area: &Area) -> Result<(), AllocError>
+    ensures { OnOk result (string_bytes text.new ≡ string_bytes text.old ++ area_line area.now) }
 {
     let Area {
         first,
         last,
         frame,
-        ..
+        rights,
     } = *area;
-    let rights = letters(alloc, &area.rights)?;
-    let line = format!(in alloc; "0x{first:x} 0x{last:x} 0x{frame:x} {rights}\n")?;
-    Ok(text_of(line))
+    let rights = Letters(rights);
+    writeln!(text, "0x{first:x} 0x{last:x} 0x{frame:x} {rights}")
 }
 
 /// How many lines the answer to a point has.
@@ -122,79 +131,87 @@ fn verdict_line_count(findings: &[Finding]) -> u64
     1 + findings.len() as u64
 }
 
-/// A line of the answer to a point, by its index.
+/// Appends a line of the answer to a point, by its index.
 #[tactic(auto, using(crate::proofs::Verdicts::verdict_some))]
-fn verdict_line(alloc: Global, findings: &[Finding], i: u64) -> Result<Text, AllocError>
+fn append_verdict_line(text: &mut String, findings: &[Finding], i: u64) -> Result<(), AllocError>
     requires { i < length (verdict_lines findings.now) }
-    ensures { IfOk result (λ text. text ≡ slice_index_or (verdict_lines findings.now) i []) }
+    ensures { OnOk result (string_bytes text.new
+        ≡ string_bytes text.old ++ slice_index_or (verdict_lines findings.now) i []) }
 {
     if findings.is_empty() {
-        return no_finding(alloc);
+        return append_no_finding(text);
     }
-    finding_line_at(alloc, findings, i)
+    append_finding_line(text, findings, i)
 }
 
-/// A line of a point with findings, by its index.
-fn finding_line_at(alloc: Global, findings: &[Finding], i: u64) -> Result<Text, AllocError>
+/// Appends a line of a point with findings, by its index.
+fn append_finding_line(text: &mut String, findings: &[Finding], i: u64) -> Result<(), AllocError>
     requires { i ≤ length findings.now }
-    ensures { IfOk result (λ text. text ≡ slice_index_or (finding_lines findings.now) i []) }
+    ensures { OnOk result (string_bytes text.new
+        ≡ string_bytes text.old ++ slice_index_or (finding_lines findings.now) i []) }
 {
     match i.checked_sub(1) {
-        None => finding_count(alloc, findings.len()),
-        Some(index) => finding_text(alloc, &findings[index as usize]),
+        None => append_finding_count(text, findings.len()),
+        Some(index) => append_finding(text, &findings[index as usize]),
     }
 }
 
-/// The answer to a point without findings.
-fn no_finding(alloc: Global) -> Result<Text, AllocError>
-    ensures { IfOk result (λ text. text ≡ no_finding_line) }
+/// Appends the answer to a point without findings.
+fn append_no_finding(text: &mut String) -> Result<(), AllocError>
+    ensures { OnOk result (string_bytes text.new ≡ string_bytes text.old ++ no_finding_line) }
 {
-    let line = format!(in alloc; "point yes\n")?;
-    Ok(text_of(line))
+    writeln!(text, "point yes")
 }
 
-/// The first line of a point with findings.
-fn finding_count(alloc: Global, count: usize) -> Result<Text, AllocError>
-    ensures { IfOk result (λ text. text ≡ finding_count_line count) }
+/// Appends the first line of a point with findings.
+fn append_finding_count(text: &mut String, count: usize) -> Result<(), AllocError>
+    ensures { OnOk result (string_bytes text.new
+        ≡ string_bytes text.old ++ finding_count_line count) }
 {
-    let line = format!(in alloc; "point no {count}\n")?;
-    Ok(text_of(line))
+    writeln!(text, "point no {count}")
 }
 
-/// The line of a finding.
-fn finding_text(alloc: Global, finding: &Finding) -> Result<Text, AllocError>
-    ensures { IfOk result (λ text. text ≡ finding_line finding.now) }
+/// Appends the line of a finding.
+fn append_finding(text: &mut String, finding: &Finding) -> Result<(), AllocError>
+    ensures { OnOk result (string_bytes text.new
+        ≡ string_bytes text.old ++ finding_line finding.now) }
 {
     let Finding {
         cpu,
         pcid,
         page,
         frame,
-        ..
+        excess,
     } = *finding;
-    let excess = letters(alloc, &finding.excess)?;
-    let line = format!(in alloc;
-        "cpu {cpu} pcid {pcid} page 0x{page:x} frame 0x{frame:x} {excess}\n"
-    )?;
-    Ok(text_of(line))
+    let excess = Letters(excess);
+    writeln!(
+        text,
+        "cpu {cpu} pcid {pcid} page 0x{page:x} frame 0x{frame:x} {excess}"
+    )
 }
 
-/// Eight characters: the letter of each access that is in the set, else `-`.
-fn letters(alloc: Global, rights: &Rights) -> Result<String, AllocError>
-    ensures { IfOk result (λ text. string_bytes text ≡ rights_text rights.now) }
-{
-    let (ur, uw, ux) = (
-        letter(rights, Access::Ur),
-        letter(rights, Access::Uw),
-        letter(rights, Access::Ux),
-    );
-    let (sr, sw, sx) = (
-        letter(rights, Access::Sr),
-        letter(rights, Access::Sw),
-        letter(rights, Access::Sx),
-    );
-    let (ir, iw) = (letter(rights, Access::Ir), letter(rights, Access::Iw));
-    format!(in alloc; "{ur}{uw}{ux}{sr}{sw}{sx}{ir}{iw}")
+/// A set of accesses, printed as eight characters: the letter of each access that is in the set, else `-`.
+#[derive(Clone, Copy)]
+struct Letters(Rights);
+
+impl fmt::Display for Letters {
+    ghost output = { λ letters. Some (rights_text letters.0) };
+
+    fn fmt<W: fmt::Write>(&self, f: &mut fmt::Formatter<W>) -> fmt::Result {
+        let rights = &self.0;
+        let (ur, uw, ux) = (
+            letter(rights, Access::Ur),
+            letter(rights, Access::Uw),
+            letter(rights, Access::Ux),
+        );
+        let (sr, sw, sx) = (
+            letter(rights, Access::Sr),
+            letter(rights, Access::Sw),
+            letter(rights, Access::Sx),
+        );
+        let (ir, iw) = (letter(rights, Access::Ir), letter(rights, Access::Iw));
+        write!(f, "{ur}{uw}{ux}{sr}{sw}{sx}{ir}{iw}")
+    }
 }
 
 /// The letter of an access that is in the set, else `-`.

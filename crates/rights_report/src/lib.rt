@@ -10,7 +10,7 @@ mod fixed;
 mod lines;
 mod refusals;
 
-pub use answers::{line, line_count};
+pub use answers::{line, line_count, write_line};
 pub use fixed::{core_too_long, log_too_long, usage};
 pub use refusals::{Cause, core_refusal, log_refusal};
 

@@ -1,10 +1,15 @@
-//! Each error prints itself as the program's line has it.
+//! Each error prints itself as the program's line has it, and one text takes the lines of one answer after another.
 
 use super::*;
 use elf_core::{CoreFault, NoteRule};
+use history_model::answers::{Answer, Why};
+use history_model::caches::{Finding, Findings};
 use history_model::faults::StepFault;
+use paging_model::access::Rule;
+use paging_model::access_sets::Rights;
 use paging_model::registers::RegRule;
-use std::alloc::Global;
+use paging_model::spaces::{Area, Areas};
+use std::alloc::{AllocError, Global};
 use std::process::Abort;
 use std::test::Fail;
 
@@ -89,6 +94,88 @@ fn lines_are_refused_in_the_words_of_their_faults(rt: HostRuntime) -> Result<(),
     for rule in REGISTER_RULES {
         refuses_line(&rt, rt.alloc(), Cause::Step(StepFault::Illegal(rule)))?;
     }
+    Ok(())
+}
+
+#[test]
+fn a_text_holds_the_last_line_alone(rt: HostRuntime) -> Result<(), Fail> {
+    let mut text = String::from_str(rt.alloc(), "longer than the first line of the log")?;
+    let granted = Answer::Asked(Ok(0x6234));
+    let denied = Answer::Asked(Err(Why::Denied(Rule::Key)));
+    let listed = two_areas(rt.alloc())?;
+    let found = one_finding(rt.alloc())?;
+    let right = Answer::Verdict(Findings::from_vec(Vec::new(rt.alloc())));
+    let lines = [
+        (&granted, 0, "granted 0x6234\n"),
+        (
+            &listed,
+            2,
+            "0xffff800000000000 0xffff8000001fffff 0x40000000 ---rw-rw\n",
+        ),
+        (&listed, 1, "0x0 0xfff 0x5000 rwxrwxrw\n"),
+        (&listed, 0, "areas 2\n"),
+        (
+            &found,
+            1,
+            "cpu 4294967295 pcid 4095 page 0x7ffffffff000 frame 0x6000 -w-----w\n",
+        ),
+        (&found, 0, "point no 1\n"),
+        (&Answer::ListTooLarge, 0, "areas too large\n"),
+        (&denied, 0, "denied key\n"),
+        (&right, 0, "point yes\n"),
+    ];
+    for (answer, i, expected) in lines {
+        writes(&rt, rt.alloc(), &mut text, answer, i, expected)?;
+    }
+    Ok(())
+}
+
+/// Two areas: a page that grants all, and 2 MBytes for reads and writes of the supervisor.
+fn two_areas(alloc: Global) -> Result<Answer, AllocError> {
+    let areas = vec![in alloc;
+        Area {
+            first: 0,
+            last: 0xfff,
+            frame: 0x5000,
+            rights: Rights::of_number(255),
+        },
+        Area {
+            first: 0xffff_8000_0000_0000,
+            last: 0xffff_8000_001f_ffff,
+            frame: 0x4000_0000,
+            rights: Rights::of_number(216),
+        },
+    ]?;
+    Ok(Answer::Listed(Areas::from_vec(areas)))
+}
+
+/// A finding, whose excess is writes of the user and implicit ones.
+fn one_finding(alloc: Global) -> Result<Answer, AllocError> {
+    let findings = vec![in alloc;
+        Finding {
+            cpu: u32::MAX,
+            pcid: 4095,
+            page: 0x7fff_ffff_f000,
+            frame: 0x6000,
+            excess: Rights::of_number(130),
+        },
+    ]?;
+    Ok(Answer::Verdict(Findings::from_vec(findings)))
+}
+
+fn writes(
+    rt: &impl Abort,
+    alloc: Global,
+    text: &mut String,
+    answer: &Answer,
+    i: u64,
+    expected: &str,
+) -> Result<(), Fail> {
+    assert!(rt; i < line_count(answer));
+    write_line(text, answer, i)?;
+    assert_eq!(rt; text.as_str(), expected);
+    let fresh = line(alloc, answer, i)?;
+    assert_eq!(rt; fresh.as_slice(), expected.as_bytes());
     Ok(())
 }
 
