@@ -58,14 +58,15 @@ fn append_asked(text: &mut String, asked: Result<u64, Why>) -> Result<(), AllocE
 {
     match asked {
         Ok(address) => writeln!(text, "granted 0x{address:x}"),
-        Err(Why::NotCanonical) => writeln!(text, "denied not-canonical"),
-        Err(Why::Lass) => writeln!(text, "denied lass"),
+        Err(Why::NotCanonical) => text.push_str("denied not-canonical\n"),
+        Err(Why::Lass) => text.push_str("denied lass\n"),
         Err(Why::Unknown(level)) => writeln!(text, "denied unknown {level}"),
         Err(Why::Absent(level)) => writeln!(text, "denied absent {level}"),
         Err(Why::Reserved(level)) => writeln!(text, "denied reserved {level}"),
         Err(Why::Denied(rule)) => {
-            let rule = rule_name(rule);
-            writeln!(text, "denied {rule}")
+            text.push_str("denied ")?;
+            text.push_str(rule_name(rule))?;
+            text.push_str("\n")
         }
     }
 }
