@@ -8,14 +8,19 @@ use crate::opener::Opener;
 use crate::shelf::{Failed, Shelf};
 use std::alloc::Global;
 
+/// The most bytes that a read gives: as many as the buffer has.
+const PART: usize = 65_536;
+
 /// Reads the files of an opener.
 ///
-/// The file of the last name stays open until another is read. A read gives 65,536 bytes at most.
+/// The file of the last name stays open until another is read. A read gives 65,536 bytes at most, by way of a buffer
+/// that stands in the shelf.
 #[derive(Drop)]
 pub struct FileShelf<O: Opener> {
     alloc: Global,
     opener: O,
     open: Option<OpenFile<O>>,
+    buffer: [u8; PART],
     faults: u64,
 }
 
@@ -40,6 +45,7 @@ impl<O: Opener> FileShelf<O> {
             alloc,
             opener,
             open: None,
+            buffer: [0; PART],
             faults: 0,
         }
     }
@@ -60,10 +66,10 @@ impl<O: Opener> FileShelf<O> {
         if let Some(open) = &self.open
             && open.name.as_str() == name
         {
-            return read_part(&mut self.opener, &open.file, at, into);
+            return read_part(&mut self.opener, &open.file, at, &mut self.buffer, into);
         }
         let file = self.opener.open(name)?;
-        let count = read_part(&mut self.opener, &file, at, into)?;
+        let count = read_part(&mut self.opener, &file, at, &mut self.buffer, into)?;
         if let Ok(name) = String::from_str(self.alloc, name) {
             self.open = Some(OpenFile { name, file });
         }
@@ -76,6 +82,7 @@ fn read_part<O: Opener>(
     opener: &mut O,
     file: &O::File,
     at: u64,
+    buffer: &mut [u8; PART],
     into: &mut [u8],
 ) -> Result<usize, Failed>
     ensures within { IfOk result (λ count. count ≤ length into.new) }
@@ -89,10 +96,9 @@ fn read_part<O: Opener>(
     ensures others { (n other : List ℕ) → IsTrue (O.is_named file.now n) → other ≢ n
         → O.reach opener.new other ≡ O.reach opener.old other }
 {
-    let mut own = [0u8; 65536];
-    let room = own.len().min(into.len());
-    let count = opener.read_at(file, at, &mut own[..room])?;
-    into[..count].copy_from_slice(&own[..count]);
+    let room = buffer.len().min(into.len());
+    let count = opener.read_at(file, at, &mut buffer[..room])?;
+    into[..count].copy_from_slice(&buffer[..count]);
     Ok(count)
 }
 

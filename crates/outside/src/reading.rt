@@ -45,13 +45,13 @@ impl From<AllocError> for ReadFault {
     }
 }
 
-/// The length of the buffer that bytes are read into: it fits a second-level cache.
+/// The length of the buffer that bytes are read into: a read of a file gives no more, and it stays in the cache.
 ///
 /// Proofs see no more of it than the clause: from the number itself they would compute a list that long.
 fn piece_len() -> usize
     ensures { 0 < result }
 {
-    1 << 18
+    1 << 16
 }
 
 /// Reads a name from its first byte on: `limit` bytes, or all where there are fewer.
