@@ -77,6 +77,9 @@ pub(crate) fn event_of(alloc: Global, line: &[u8]) -> Result<Option<Event>, Line
 fn event_of_words(alloc: Global, mut words: Words) -> Result<Option<Event>, LineFault>
     ensures { IsReadOf (event_of_words words.entry) result }
 {
+    if let Some(rest) = words.after_ask() {
+        return ask(rest);
+    }
     let word = words.next()?;
     if word == b"ask".as_slice() {
         return ask(words);

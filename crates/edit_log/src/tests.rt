@@ -208,6 +208,38 @@ fn reads_alike_however_it_is_cut(rt: HostRuntime) -> Result<(), Fail> {
     check_cuts(&rt, rt.alloc(), LOG, whole.as_str())
 }
 
+/// Logs of several events each, as they are written about tables, registers and invalidations.
+const LOGS: [&[u8]; 12] = [
+    b"write 0x3000 e720400000000000\nask 0 ur 0x1234\nwrite 0x3000 e620400000000000\n\
+      ask 0 ur 0x1234\nwrite 0x3000 e710400000000000\nask 0 ur 0x1234\n",
+    b"write 0x4000 0750000000000018\nset 0 cr4 0x400020\nset 0 pkru 0x40\nlist 0\n\
+      set 0 pkru 0x80\nset 0 cr0 0x80000001\nask 0 uw 0x0\nask 0 sw 0x0\nlist 0\n",
+    b"set 0 cr3 0x4000000000001000\nask 0 ur 0x7fff000000000000\nask 0 ux 0x7fff000000000000\n",
+    b"set 0 cr4 0x8000020\nask 0 sx 0x0\nask 0 ux 0x0\nask 0 ur 0xffff800000000000\nlist 0\n",
+    b"write 0x1800 0710000000000000\nlist 0\nwrite 0x3008 0740000000000000\nlist 0\n",
+    b"cpu 1 0x80010001 0x1000 0x20 0xd00 0x2 0x0 0x0\nwrite 0x4000 0000000000000000\n\
+      point current\ninvlpg 0 0x0\npoint current\n",
+    b"write 0x3000 0000000000000000\nwrite 0x4010 0770000000000000\npoint current\n\
+      invlpg 0 0x9000\npoint current\ninvlpg 0 0x2000\npoint current\n",
+    b"set 0 cr4 0x20020\nset 0 cr3 0x1001\nset 0 cr3 0x8000000000008002\n\
+      write 0x4000 0000000000000000\npoint current\npoint all\ninvpcid 0 1 1 0x0\npoint all\n",
+    b"machine 46 1\ncpu 0 0x80050033 0x1006 0x370ee0 0xd01 0x246 0x55555554 0x0\n\
+      ask 0 ur 0x0\nask 0 sr 0x0\nlist 0\nset 0 cr3 0x8006\nask 0 ur 0x0\n",
+    b"write 0x1ffc 0102030405060708\nwrite 0xfffc 0011223344556677\ninvpcid 0 4 0 0x0\n\
+      invpcid 0 0 0 0x800000000000\nask 0  ur 0x0\n",
+    b"write 0x4000 0350000000000000\nask 0 ur 0x0\nset 0 efer 0x500\nset 0 pkrs 0\nask 0 ir 0x0\n",
+    b"# note\n\nask 0 ur 0xfff",
+];
+
+#[test]
+fn reads_logs_of_many_events_however_they_are_cut(rt: HostRuntime) -> Result<(), Fail> {
+    for log in LOGS {
+        let whole = read_pieces(rt.alloc(), &[log])?;
+        check_cuts(&rt, rt.alloc(), log, whole.as_str())?;
+    }
+    Ok(())
+}
+
 #[test]
 fn reads_long_lines_however_they_are_cut(rt: HostRuntime) -> Result<(), Fail> {
     for (length, wanted) in [

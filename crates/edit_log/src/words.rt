@@ -1,6 +1,6 @@
 //! The words of a line, and what a word by itself spells: a kind of access, a flag, a width, a number of 32 bits.
 
-ghost use Rattle.std.specs.Prelude.{◌≡◌, ◌≢◌, ◌≤◌, ◌<◌, ◌∷◌, All, length, take, slice_index, IfSome, IfNone, IfOk, IfErr};
+ghost use Rattle.std.specs.Prelude.{◌≡◌, ◌≢◌, ◌≤◌, ◌<◌, ◌∷◌, All, codes, length, take, slice_index, IfSome, IfNone, IfOk, IfErr};
 ghost use Rattle.std.specs.Result.{result_ok};
 ghost use Rattle.edit_log.specs.Log.{words_of};
 ghost use Rattle.edit_log.specs.LogLine.{access_of_word, flag_of, width_of, word_of_32 as number_of_32};
@@ -50,6 +50,17 @@ impl<'a> Words<'a> {
                 Ok(&line[..end])
             }
             None => Err(Misspelling),
+        }
+    }
+
+    /// The words after the first, where that is `ask` and others follow it: most lines begin so, and it isn't searched
+    /// for its end.
+    pub(crate) fn after_ask(&self) -> Option<Words<'a>>
+        ensures { IfSome result (λ rest. self.now ≡ codes "ask" ∷ rest) }
+    {
+        match self.line {
+            [b'a', b's', b'k', b' ', line @ ..] => Some(Words { line }),
+            _ => None,
         }
     }
 
