@@ -21,7 +21,7 @@ end-whole job before now Stale read written ends = inl ends
 end-whole job before now Usage read written ends = inl ends
 end-whole job before now CoreRefused read written ends = inl ends
 end-whole job before now LogRefused read written ends = inl ends
-end-whole job before now ReadFailed read written ends = absurd ends
+end-whole job before now ReadFailed read written ends = absurd (read refl)
 end-whole job before now WriteFailed read written ends = absurd (written refl)
 end-whole job before now OutOfMemory read written ends = inr refl
 

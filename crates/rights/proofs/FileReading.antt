@@ -1,5 +1,5 @@
--- What was read of a core and a log, and the job that they have.
-use Rattle.std.proofs.Common.{◌≡◌, ℕ, ◌≤◌, List, [], ◌∷◌, ◌++◌, refl, arith, sym, ◌∙◌, subst, length, take, inl, inr}
+-- What was read of a core, and the job that it has with a log.
+use Rattle.std.proofs.Common.{◌≡◌, ◌≢◌, ℕ, ◌≤◌, List, [], ◌∷◌, ◌++◌, refl, arith, sym, ◌∙◌, subst, length, take, inl, inr}
 use Rattle.std.proofs.lemmas.Grind.{common_steps}
 use Rattle.std.proofs.lemmas.Bool.Decides.{nat_tests}
 use Rattle.std.specs.Prelude.{Bool, true, false, IsTrue, nat_lt, Some, Result, Ok, Err, ◌⊎◌}
@@ -10,15 +10,14 @@ use Rattle.elf_core.specs.Cores.{core_of, IsRefusalOf}
 use Rattle.elf_core.specs.declared.core_file.Core.{Core}
 use Rattle.elf_core.specs.declared.faults.CoreFault.{CoreFault}
 use Rattle.elf_core.specs.declared.faults.CoreFault.TheVariants as core_fault
-use Rattle.history_model.specs.History.{History, begun}
+use Rattle.history_model.specs.History.{begun}
 use Rattle.rights_report.specs.CoreRefusals.{core_refusal_line}
 use Rattle.rights_report.specs.FixedLines.{core_too_long_line}
-use Rattle.rights.specs.HandledLines.{log_limit}
-use Rattle.rights.specs.Jobs.{answers}
+use Rattle.rights.specs.LogPieces.{FailsAtReach, StopsAtReach}
 use Rattle.outside.specs.declared.reading.ReadFault.{ReadFault}
 use Rattle.outside.specs.declared.reading.ReadFault.TheVariants as read_fault
 use Rattle.rights.specs.Run.{core_limit, core_or_refusal, IsAccepted, IsUnread, MayBe, job_of, or_refusal}
-use Rattle.rights.specs.Stopping.{end_of, EndsOrStops, LacksLine, line_of, status_of, stop_of_core, stop_of_read, StopsForFiles, StopsForLog}
+use Rattle.rights.specs.Stopping.{end_of, LacksLine, line_of, status_of, stop_of_core, stop_of_read, StopsForFiles, StopsForLog}
 use Rattle.rights.specs.declared.statuses.Status.{Status}
 use Rattle.rights.specs.declared.statuses.Status.TheVariants.{CoreRefused, ReadFailed}
 use Rattle.rights.specs.declared.stopping.Stop.{Stop}
@@ -50,15 +49,6 @@ stands unspecified limit len bytes false len_is whole none bound full = record {
 stands missing limit len bytes cut len_is whole none bound full = absurd (let never : false ≡ true = none refl in cc)
 stands (has_bytes content) limit len bytes cut len_is whole none bound full =
     record { content = content; may_be = refl; read = sym (whole content refl).bytes_are; cut_is = sym (whole content refl).cut_is }
-
--- what was read of a log is its job
-pub for_log : (start : History) (known : Known) (before now : Pieces) (result : Result Status Stop) (bytes : List ℕ) (cut : Bool) → Stands known log_limit bytes cut
-    → EndsOrStops (answers start cut bytes) before now result → StopsForLog start known before now result
-for_log start known before now result bytes cut read stops = record {
-  log = read.content;
-  log_is = read.may_be;
-  stops = rw (read.cut_is, read.read) stops;
-}
 
 -- bytes of a core that aren't cut are all
 all_read : (content bytes : List ℕ) (limit : ℕ) → take limit content ≡ bytes → nat_lt limit (length content) ≡ false → content ≡ bytes
@@ -162,3 +152,19 @@ unread before read_fault.Memory = record { nothing = refl; why = inr refl }
 pub device : (fault : ReadFault) → status_of (stop_of_read fault) ≡ ReadFailed → fault ≡ read_fault.Device
 device read_fault.Device is = refl
 device read_fault.Memory is = absurd (cc)
+
+-- what was written where a read of a core failed, and where one of its log did
+pub log-unread : (core_name log_name : List ℕ) (core_known : Known) (log : List ℕ) (reach_old reach_new : ℕ) (before : Pieces) → (log_name ≢ core_name → reach_new ≡ reach_old)
+    → FailsAtReach core_name log_name core_known log reach_old reach_new before before
+log-unread core_name log_name core_known log reach_old reach_new before same = record {
+  nothing = λ none. refl;
+  ended = λ other none some. absurd (some (same other ∙ none));
+}
+
+pub fails-after : (core_known : Known) (core_name log_name core log : List ℕ) (read : Core) {reach_old reach_mid reach_new : ℕ} {before now : Pieces} → MayBe core_known core
+    → core_or_refusal core ≡ Ok read → (log_name ≢ core_name → reach_mid ≡ reach_old) → StopsAtReach (begun (core_start read)) log reach_mid reach_new before now
+    → FailsAtReach core_name log_name core_known log reach_old reach_new before now
+fails-after core_known core_name log_name core log read may_be is same stops = record {
+  nothing = stops.nothing;
+  ended = λ other none some. record { core = core; core_is = may_be; read = read; accepted = is; ended = stops.ended (same other ∙ none) };
+}

@@ -1,12 +1,13 @@
 -- What a run that stops has written, once its last line is put.
 use Rattle.std.proofs.Common.{◌≡◌, ℕ, List, [], ◌∷◌, ◌++◌, refl, ap, sym, ◌∙◌, subst, inl, inr}
-use Rattle.std.specs.Prelude.{◌⊎◌, Option, Some, None, Result, Ok, Err, IfOk, IsErrAnd}
+use Rattle.std.specs.Prelude.{◌⊎◌, Bool, true, false, Option, Some, None, Result, Ok, Err, IsErrAnd}
 use Rattle.outside.specs.Sink.{Puts}
 use Rattle.outside.specs.Shelf.{Known}
 use Rattle.rights.specs.Ends.{Adds, AddsOutcome, AddsPrefix, AddsTruncated, after_lines, Ends}
 use Rattle.rights.specs.Jobs.{Job, one_line}
+use Rattle.rights.specs.Outcome.{end_status}
 use Rattle.rights.specs.Run.{EndsForFiles, IsUnread}
-use Rattle.rights.specs.Stopping.{end_of, EndsByLine, EndsOrStops, LacksLine, line_of, status_of, StopsBy, StopsForFiles, WritesLast}
+use Rattle.rights.specs.Stopping.{end_of, EndsByLine, LacksLine, line_of, status_of, StopsBy, StopsForFiles, WritesLast}
 use Rattle.rights.specs.declared.statuses.Status.{Status}
 use Rattle.rights.specs.declared.statuses.Status.TheVariants.{Answered, Stale, Usage, CoreRefused, LogRefused, ReadFailed, WriteFailed, OutOfMemory}
 use Rattle.rights.specs.declared.stopping.Stop.{Stop}
@@ -79,7 +80,7 @@ last-line job before mid now line status Stale lacks last = lacked-line job befo
 last-line job before mid now line status Usage lacks last = lacked-line job before mid now line status Usage lacks last
 last-line job before mid now line status CoreRefused lacks last = lacked-line job before mid now line status CoreRefused lacks last
 last-line job before mid now line status LogRefused lacks last = lacked-line job before mid now line status LogRefused lacks last
-last-line job before mid now line status ReadFailed lacks last = last
+last-line job before mid now line status ReadFailed lacks last = absurd (let none : line ∷ [] ≡ [] = sym last.reaches.1 ∙ last.adds.0 in cc)
 last-line job before mid now line status WriteFailed lacks last = record {
   lines = lacks.lines;
   next = line ∷ [];
@@ -121,17 +122,16 @@ stops-last core_known log_known before mid now why end stops last =
       })
     ]
 
--- answering reads no file
-pub reads-no-file : (job : Job) (before now : Pieces) (result : Result Status Stop) → EndsOrStops job before now result → end_of result ≡ ReadFailed → ⊥
-reads-no-file job before now (Ok status) ends is = rw is at ends
-reads-no-file job before now (Err stop.Read) ends is = ends
-reads-no-file job before now (Err stop.Usage) ends is = absurd (cc)
-reads-no-file job before now (Err stop.LongCore) ends is = absurd (cc)
-reads-no-file job before now (Err (stop.Core fault)) ends is = absurd (cc)
-reads-no-file job before now (Err (stop.Line number cause)) ends is = absurd (cc)
-reads-no-file job before now (Err stop.LongLog) ends is = absurd (cc)
-reads-no-file job before now (Err stop.Put) ends is = absurd (cc)
-reads-no-file job before now (Err stop.Memory) ends is = absurd (cc)
+-- a read failed
+pub read-failed : (why : Stop) → status_of why ≡ ReadFailed → why ≡ stop.Read
+read-failed stop.Read is = refl
+read-failed stop.Put is = absurd (cc)
+read-failed stop.Usage is = absurd (cc)
+read-failed stop.LongCore is = absurd (cc)
+read-failed (stop.Core fault) is = absurd (cc)
+read-failed (stop.Line number cause) is = absurd (cc)
+read-failed stop.LongLog is = absurd (cc)
+read-failed stop.Memory is = absurd (cc)
 
 -- a put failed
 pub put-failed : (why : Stop) → status_of why ≡ WriteFailed → why ≡ stop.Put
@@ -144,10 +144,10 @@ put-failed (stop.Line number cause) is = absurd (cc)
 put-failed stop.LongLog is = absurd (cc)
 put-failed stop.Memory is = absurd (cc)
 
-pub answering-failed : (result : Result Status Stop) → IfOk result (λ status. (status ≡ Answered) ⊎ (status ≡ Stale)) → end_of result ≡ WriteFailed → result ≡ Err stop.Put
-answering-failed (Ok status) among is =
-    elim among [ inl answered ↦ absurd (let never : Answered ≡ WriteFailed = sym answered ∙ is in cc) | inr stale ↦ absurd (let never : Stale ≡ WriteFailed = sym stale ∙ is in cc) ]
-answering-failed (Err why) among is = ap Err (put-failed why is)
+-- a log that ends well had no failure
+pub ends-well : (stale : Bool) (status : Status) → (status ≡ ReadFailed) ⊎ (status ≡ WriteFailed) → end_status stale ≡ status → ⊥
+ends-well true status failed is = elim failed [ inl read ↦ absurd (let never : Stale ≡ ReadFailed = is ∙ read in cc) | inr write ↦ absurd (let never : Stale ≡ WriteFailed = is ∙ write in cc) ]
+ends-well false status failed is = elim failed [ inl read ↦ absurd (let never : Answered ≡ ReadFailed = is ∙ read in cc) | inr write ↦ absurd (let never : Answered ≡ WriteFailed = is ∙ write in cc) ]
 
 pub ends-files : (core_known log_known : Known) (before now : Pieces) (status : Status) → IsUnread before now status ⊎ StopsForFiles core_known log_known before now (Ok status)
     → IsUnread before now status ⊎ EndsForFiles core_known log_known before now status

@@ -4,7 +4,7 @@ use Rattle.rights.specs.Ends.{AddsPrefix, AddsTruncated, after_lines, Ends}
 use Rattle.rights.specs.Jobs.{Job, answers, one_line, IsOutcomeOf, HasReached}
 use Rattle.rights.specs.Outcome.{Outcome}
 use Rattle.rights.specs.Run.{IsOutcome, job_of}
-use Rattle.rights.specs.declared.statuses.Status.TheVariants.{WriteFailed, OutOfMemory}
+use Rattle.rights.specs.declared.statuses.Status.TheVariants.{ReadFailed, WriteFailed, OutOfMemory}
 use Rattle.rights.proofs.Outcomes.{BeginsWith, log-begins, log_once}
 use Rattle.rights.proofs.PutPieces.{Pieces, prefix-after, prefix-more, truncated-after, truncated-more}
 
@@ -31,3 +31,13 @@ pub memory-begins : (job : Job) (before now : Pieces) (outcome : Outcome) → En
 memory-begins job before now outcome ends is =
     let begins = job-begins job ends.lines ends.next outcome is ends.reaches in
     rw begins.1 (prefix-after before now ends.lines (ends.next ++ begins.0) (prefix-more (after_lines before ends.lines) now ends.next begins.0 ends.adds))
+
+pub read-begins : (job : Job) (before now : Pieces) (outcome : Outcome) → Ends job before now ReadFailed → IsOutcomeOf job outcome → AddsPrefix before now outcome.lines
+read-begins job before now outcome ends is =
+    let begins = job-begins job ends.lines ends.next outcome is ends.reaches in
+    record {
+      whole = ends.lines;
+      more = ends.next ++ begins.0;
+      lines_are = begins.1;
+      adds = ends.adds.1;
+    }

@@ -1,10 +1,15 @@
+pub mod Booleans
 pub mod Completeness
 pub mod FileReading
 pub mod Finishing
+pub mod Following
 pub mod HandledLines
 pub mod Jobs
 pub mod LineEnds
 pub mod LinesInTurn
+pub mod LogEnds
+pub mod LogLoop
+pub mod LogPieces
 pub mod LogReading
 pub mod Outcomes
 pub mod PutPieces

@@ -1,4 +1,4 @@
--- What a reader of a log takes, and how far the log is handled by it.
+-- The lines that a reader takes of a log, and what is handled with them.
 use Rattle.std.proofs.Common.{◌≡◌, ◌≢◌, ℕ, ◌+◌, ◌<◌, ◌≤◌, List, [], ◌∷◌, ◌++◌, refl, arith, ap, sym, ◌∙◌, subst, inl, inr, length, length-append, append-nil, append_assoc}
 use Rattle.std.proofs.lemmas.Bool.Decides.{nat_tests}
 use Rattle.std.proofs.lemmas.List.Concat.{flat_map-append}
@@ -7,7 +7,7 @@ use Rattle.std.specs.List.{list_any}
 use Rattle.std.specs.Prelude.{Bool, true, false, ◌||◌, not, Some, None, Err, ◌⊎◌}
 use Rattle.audit_core.specs.Standing.{Holding, StandsFor}
 use Rattle.audit_core.specs.Stepping.{AcceptsEvent}
-use Rattle.edit_log.specs.Reading.{AllSkipped, Gives, Passes, Reading, Refuses, Splits, left_of}
+use Rattle.edit_log.specs.Reading.{AllSkipped, Gives, Passes, Reading, Refuses, Splits, Takes, left_of}
 use Rattle.edit_log.specs.declared.line_forms.LineFault.{LineFault}
 use Rattle.edit_log.specs.declared.line_forms.LineFault.TheVariants as line_fault
 use Rattle.history_model.specs.Answering.{Answers}
@@ -25,22 +25,19 @@ use Rattle.rights_report.specs.declared.refusals.Cause.{Cause}
 use Rattle.rights_report.specs.declared.refusals.Cause.TheVariants.{TooLong, Step}
 use Rattle.history_model.specs.declared.faults.StepFault.{StepFault}
 use Rattle.history_model.specs.declared.faults.StepFault.TheVariants as step
-use Rattle.rights.specs.Ends.{Adds, AddsOutcome, AddsPrefix, AddsTruncated, after_lines, Ends}
-use Rattle.rights.specs.HandledLines.{fault_cause, HandledPart, Handles, limit_refusal, lines_read, log_limit, refusal_after}
+use Rattle.rights.specs.Ends.{Adds, AddsPrefix, AddsTruncated, after_lines, Ends}
+use Rattle.rights.specs.HandledLines.{fault_cause, HandledPart, Handles, limit_refusal, refusal_after}
 use Rattle.rights.specs.Jobs.{answers}
-use Rattle.rights.specs.Outcome.{end_status, has_findings, output_of}
+use Rattle.rights.specs.Outcome.{has_findings, output_of}
+use Rattle.rights.specs.Partway.{fed_all, IsGoing, IsPartway, IsReady, MayFollow, Partway}
 use Rattle.rights.specs.Stopping.{EndsOrStops, HandlesEvent, LacksLine, PutsLines, ReadsNext, stop_of_event}
 use Rattle.rights.specs.declared.statuses.Status.TheVariants.{LogRefused, OutOfMemory}
 use Rattle.rights.specs.declared.stopping.Stop.{Stop}
 use Rattle.rights.specs.declared.stopping.Stop.TheVariants.{Usage, LongCore, Core, Line, LongLog, Read, Put, Memory}
-use Rattle.rights.proofs.HandledLines.{answers-line, handles-append, handles-none, skips}
+use Rattle.rights.proofs.Following.{gives_all, refuses_all, takes_all, takes_left}
+use Rattle.rights.proofs.HandledLines.{answers-line, handles-append, skips}
 use Rattle.rights.proofs.LineEnds.{lines_at_most, rest_after}
-use Rattle.rights.proofs.PutPieces.{adds-more, adds-none, Pieces, prefix-none}
-
--- a reader that was fed what was read of a log has all its lines left
-fed : (more : Bool) (log : List ℕ) → left_of (record { rest = log; taken = 0; finished = not more; refused = None }) ≡ lines_read more log
-fed true log = refl
-fed false log = refl
+use Rattle.rights.proofs.PutPieces.{adds-more, Pieces, prefix-none}
 
 -- each line has a byte at least
 pub few : (complete : Bool) (old rest : List ℕ) (lines : List (List ℕ)) → Splits complete old rest lines → length lines + length rest ≤ length old
@@ -78,71 +75,29 @@ time-after (event.Ask cpu access pointer) (next before happened) = omega arith
 time-after (event.List cpu) (next before happened) = omega arith
 time-after (event.Point all) (next before happened) = omega arith
 
--- what a loop over a reader keeps of it
-pub record IsGoing (more : Bool) (log : List ℕ) (reading : Reading) : Type 0 where
-  pub unrefused : reading.refused ≡ None
-  pub complete : reading.finished ≡ not more
-  pub after : reading.finished ≡ false → rest_of log ≡ rest_of reading.rest
-  pub few : reading.taken + length reading.rest ≤ length log
-  pub limit : length log ≤ log_limit
-
 more_of : (more complete : Bool) → complete ≡ not more → complete ≡ false → more ≡ true
 more_of true complete is going = refl
 more_of false complete is going = let both : true ≡ false = sym is ∙ going in absurd (cc)
 
-pub going-start : (more : Bool) (log : List ℕ) (reading : Reading) → reading ≡ record { rest = log; taken = 0; finished = not more; refused = None }
-    → length log ≤ log_limit → IsGoing more log reading
-going-start more log reading is limit = record {
-  unrefused = rw is refl;
-  complete = rw is refl;
-  after = λ unfinished. rw is refl;
-  few = rw is (omega arith);
-  limit = limit;
-}
-
--- a line with an event was taken
-one_more : (passed : List (List ℕ)) (line : List ℕ) → length (passed ++ line ∷ []) ≡ length passed + 1
-one_more passed line = length-append passed (line ∷ [])
-
-taken_count : (more : Bool) (log : List ℕ) (old new : Reading) (happened : Event) → IsGoing more log old → (gives : Gives old new happened)
-    → new.taken ≡ old.taken + length gives.skipped + 1
-taken_count more log old new happened going gives =
-    gives.takes.count ∙ omega (arith, one_more gives.skipped gives.line, few old.finished old.rest new.rest _ gives.takes.splits, going.few, going.limit)
-
+-- lines were taken
 pub shorter : (old new : Reading) (happened : Event) → Gives old new happened → length new.rest < length old.rest
 shorter old new happened gives =
-    omega (arith, few old.finished old.rest new.rest _ gives.takes.splits, one_more gives.skipped gives.line)
+    omega (arith, few old.finished old.rest new.rest _ gives.takes.splits, length-append gives.skipped (gives.line ∷ []))
 
-pub going-on : (more : Bool) (log : List ℕ) (old new : Reading) (happened : Event) → IsGoing more log old → Gives old new happened → IsGoing more log new
-going-on more log old new happened going gives = record {
-  unrefused = gives.takes.going;
-  complete = gives.takes.finished ∙ going.complete;
+taken_count : (more : Bool) (log : List ℕ) (old new : Reading) (lines : List (List ℕ)) → IsGoing more log old → (takes : Takes old new lines)
+    → new.taken ≡ old.taken + length lines
+taken_count more log old new lines going takes =
+    takes.count ∙ omega (arith, few old.finished old.rest new.rest lines takes.splits, going.few, going.limit)
+
+going-takes : (more : Bool) (log : List ℕ) (old new : Reading) (lines : List (List ℕ)) → IsGoing more log old → Takes old new lines → IsGoing more log new
+going-takes more log old new lines going takes = record {
+  unrefused = takes.going;
+  complete = takes.finished ∙ going.complete;
   after = λ unfinished.
-      let before : old.finished ≡ false = sym gives.takes.finished ∙ unfinished in
-      going.after before ∙ rest_kept old.finished old.rest new.rest _ before gives.takes.splits;
-  few = let count = gives.takes.count in omega (arith, count, few old.finished old.rest new.rest _ gives.takes.splits, going.few, going.limit);
+      let before : old.finished ≡ false = sym takes.finished ∙ unfinished in
+      going.after before ∙ rest_kept old.finished old.rest new.rest lines before takes.splits;
+  few = let count = takes.count in omega (arith, count, few old.finished old.rest new.rest lines takes.splits, going.few, going.limit);
   limit = going.limit;
-}
-
--- a part of the log was handled, its output was put, and the reader and the session stand after it
-pub record Partway (start : History) (more : Bool) (log : List ℕ) (holding : Holding) (before now : Pieces) (reading : Reading) (stale : Bool) : Type 0 where
-  pub part : HandledPart start more log
-  pub stands : StandsFor holding part.moment
-  pub adds : Adds before now (output_of part.answers)
-  pub left : part.rest ≡ left_of reading
-  pub count : reading.taken ≡ length part.lines
-  pub stale_is : stale ≡ list_any has_findings part.answers
-
-pub partway-start : (start : History) (more : Bool) (log : List ℕ) (holding : Holding) (before : Pieces) (reading : Reading)
-    → reading ≡ record { rest = log; taken = 0; finished = not more; refused = None } → StandsFor holding start
-    → Partway start more log holding before before reading false
-partway-start start more log holding before reading is stands = record {
-  part = record { lines = []; rest = lines_read more log; log_is = refl; answers = []; moment = start; handles = handles-none start };
-  stands = stands;
-  adds = adds-none before;
-  left = sym (ap left_of is ∙ fed more log);
-  count = rw is refl;
-  stale_is = refl;
 }
 
 -- the part with more lines, that are skipped
@@ -159,7 +114,7 @@ skipping {start} {more} {log} part passed rest none is = record {
 }
 
 -- after a part whose output was put, a refusal is left
-lacks-line : {start : History} {more : Bool} {log : List ℕ} (part : HandledPart start more log) (before now : Pieces) (line : List ℕ)
+pub lacks-line : {start : History} {more : Bool} {log : List ℕ} (part : HandledPart start more log) (before now : Pieces) (line : List ℕ)
     → Adds before now (output_of part.answers) → refusal_after part ≡ Some line → LacksLine (answers start more log) before now line LogRefused
 lacks-line part before now line adds refuses = record {
   lines = output_of part.answers;
@@ -178,10 +133,6 @@ memory-after part before now adds = record {
   adds = rw adds (prefix-none (after_lines before (output_of part.answers)) []);
 }
 
-pub memory-start : (start : History) (more : Bool) (log : List ℕ) (before : Pieces) → Ends (answers start more log) before before OutOfMemory
-memory-start start more log before =
-    memory-after (record { lines = []; rest = lines_read more log; log_is = refl; answers = []; moment = start; handles = handles-none start }) before before (adds-none before)
-
 -- a line that gives no event is refused
 line_number : (more : Bool) (log : List ℕ) (old new : Reading) (fault : LineFault) (lines : List (List ℕ)) → IsGoing more log old
     → (refuses : Refuses old new fault) → old.taken ≡ length lines → new.taken ≡ length (lines ++ refuses.skipped) + 1
@@ -193,7 +144,7 @@ limit_long : (more : Bool) (log rest : List ℕ) (number : ℕ) → more ≡ tru
     → limit_refusal more log number ≡ Some (log_refusal_line number TooLong)
 limit_long more log rest number is rest_is long = rw (is, rest_is) (grind (arith, nat_tests))
 
-limit_short : (more : Bool) (log rest : List ℕ) (number : ℕ) → more ≡ true → rest_of log ≡ rest → length rest ≤ line_limit
+pub limit_short : (more : Bool) (log rest : List ℕ) (number : ℕ) → more ≡ true → rest_of log ≡ rest → length rest ≤ line_limit
     → limit_refusal more log number ≡ Some log_too_long_line
 limit_short more log rest number is rest_is short = rw (is, rest_is) (grind (arith, nat_tests))
 
@@ -216,18 +167,19 @@ refused-line start more log holding before now old new stale cause fault cause_i
           (going.after endless.unfinished) endless.long))
     ]
 
-pub stops-line : (start : History) (more : Bool) (log : List ℕ) (holding : Holding) (before now : Pieces) (old new : Reading) (stale : Bool) (stop : Stop)
-    → Partway start more log holding before now old stale → IsGoing more log old → ReadsNext old new (Err stop)
+pub stops-line : (start : History) (more : Bool) (log unread : List ℕ) (holding : Holding) (before now : Pieces) (old new : Reading) (stale : Bool) (stop : Stop)
+    → IsPartway start more log unread holding before now old stale → ReadsNext old new (Err stop)
     → EndsOrStops (answers start more log) before now (Err stop)
-stops-line start more log holding before now old new stale (Line number why) so_far going reads =
-    rw reads.0 (refused-line start more log holding before now old new stale why reads.1.0 reads.1.1 so_far going reads.1.2)
-stops-line start more log holding before now old new stale Memory so_far going reads = memory-after so_far.part before now so_far.adds
-stops-line start more log holding before now old new stale Usage so_far going reads = absurd reads
-stops-line start more log holding before now old new stale LongCore so_far going reads = absurd reads
-stops-line start more log holding before now old new stale (Core fault) so_far going reads = absurd reads
-stops-line start more log holding before now old new stale LongLog so_far going reads = absurd reads
-stops-line start more log holding before now old new stale Read so_far going reads = absurd reads
-stops-line start more log holding before now old new stale Put so_far going reads = absurd reads
+stops-line start more log unread holding before now old new stale (Line number why) so_far reads =
+    rw reads.0 (refused-line start more log holding before now (fed_all old unread more) (fed_all new unread more) stale why reads.1.0 reads.1.1 so_far.partway so_far.going
+    (refuses_all old new unread more reads.1.0 so_far.may_follow reads.1.2))
+stops-line start more log unread holding before now old new stale Memory so_far reads = memory-after so_far.partway.part before now so_far.partway.adds
+stops-line start more log unread holding before now old new stale Usage so_far reads = absurd reads
+stops-line start more log unread holding before now old new stale LongCore so_far reads = absurd reads
+stops-line start more log unread holding before now old new stale (Core fault) so_far reads = absurd reads
+stops-line start more log unread holding before now old new stale LongLog so_far reads = absurd reads
+stops-line start more log unread holding before now old new stale Read so_far reads = absurd reads
+stops-line start more log unread holding before now old new stale Put so_far reads = absurd reads
 
 -- the part up to the line of the next event
 abbrev up_to : {start : History} {more : Bool} {log : List ℕ} (part : HandledPart start more log) (old new : Reading) (happened : Event) → part.rest ≡ left_of old
@@ -237,7 +189,8 @@ up_to part old new happened left gives = skipping part gives.skipped (gives.line
 event_number : (more : Bool) (log : List ℕ) (old new : Reading) (happened : Event) (lines : List (List ℕ)) → IsGoing more log old → (gives : Gives old new happened)
     → old.taken ≡ length lines → new.taken ≡ length (lines ++ gives.skipped) + 1
 event_number more log old new happened lines going gives count =
-    taken_count more log old new happened going gives ∙ omega (arith, count, length-append lines gives.skipped)
+    taken_count more log old new (gives.skipped ++ gives.line ∷ []) going gives.takes
+    ∙ omega (arith, count, length-append lines gives.skipped, length-append gives.skipped (gives.line ∷ []))
 
 -- an event is refused, or memory ran out
 is_refusal : (number : ℕ) (why : StepFault) → (why ≡ step.Memory) ⊎ ((why ≢ step.Memory) × (stop_of_event number why ≡ Line number (Step why)))
@@ -255,7 +208,7 @@ is_refusal number (step.Crosses a) = inr ((λ is. cc), refl)
 is_refusal number step.OverlayFull = inr ((λ is. cc), refl)
 is_refusal number step.Memory = inl refl
 
-pub stops-event : (start : History) (more : Bool) (log : List ℕ) (holding : Holding) (before now : Pieces) (old new : Reading) (stale : Bool) (happened : Event) (why : StepFault)
+stops-event : (start : History) (more : Bool) (log : List ℕ) (holding : Holding) (before now : Pieces) (old new : Reading) (stale : Bool) (happened : Event) (why : StepFault)
     → (so_far : Partway start more log holding before now old stale) → IsGoing more log old → Gives old new happened
     → (why ≢ step.Memory → refusal so_far.part.moment happened ≡ Some why)
     → EndsOrStops (answers start more log) before now (Err (stop_of_event new.taken why))
@@ -269,7 +222,7 @@ stops-event start more log holding before now old new stale happened why so_far 
     ]
 
 -- the answer to an event wasn't put as a whole
-pub stops-put : (start : History) (more : Bool) (log : List ℕ) (holding : Holding) (before now put : Pieces) (old new : Reading) (stale : Bool) (happened : Event) (answer : Answer)
+stops-put : (start : History) (more : Bool) (log : List ℕ) (holding : Holding) (before now put : Pieces) (old new : Reading) (stale : Bool) (happened : Event) (answer : Answer)
     (stop : Stop) → (so_far : Partway start more log holding before now old stale) → Gives old new happened → refusal so_far.part.moment happened ≡ None
     → Answers so_far.part.moment happened answer → PutsLines now put (answer_lines answer) (Err stop) → EndsOrStops (answers start more log) before put (Err stop)
 stops-put start more log holding before now put old new stale happened answer Put so_far gives accepted is puts = record {
@@ -300,7 +253,7 @@ stops-put start more log holding before now put old new stale happened answer Lo
 stops-put start more log holding before now put old new stale happened answer Read so_far gives accepted is puts = absurd puts
 
 -- the answer to an event was put
-pub partway-answer : (start : History) (more : Bool) (log : List ℕ) (holding later : Holding) (before now put : Pieces) (old new : Reading) (stale : Bool) (happened : Event)
+partway-answer : (start : History) (more : Bool) (log : List ℕ) (holding later : Holding) (before now put : Pieces) (old new : Reading) (stale : Bool) (happened : Event)
     (answer : Answer) → (so_far : Partway start more log holding before now old stale) → IsGoing more log old → (gives : Gives old new happened)
     → refusal so_far.part.moment happened ≡ None → Answers so_far.part.moment happened answer → StandsFor later (after_event happened so_far.part.moment)
     → Adds now put (answer_lines answer) → Partway start more log later before put new (stale || has_findings answer)
@@ -336,52 +289,74 @@ partway-answer start more log holding later before now put old new stale happene
         last true = refl
         last false = refl
 
--- no line is left of a whole log, and of one that has more
-pub ends-whole : (start : History) (more : Bool) (log : List ℕ) (holding : Holding) (before now : Pieces) (old new : Reading) (stale : Bool)
-    → Partway start more log holding before now old stale → Passes old new → more ≡ false → Ends (answers start more log) before now (end_status stale)
-ends-whole start more log holding before now old new stale so_far passes is = by_end stale (record {
-  outcome = record { lines = output_of so_far.part.answers; status = end_status (list_any has_findings so_far.part.answers) };
-  is = (
-    skipping so_far.part passes.skipped [] passes.skips (so_far.left ∙ passes.left ∙ sym (append-nil passes.skipped)),
-    inl (record { all = refl; within = is; outcome_is = refl }),
-  );
-  status_is = ap end_status (sym so_far.stale_is);
-  adds = so_far.adds;
-})
-  where
-    by_end : (stale : Bool) → AddsOutcome (answers start more log) before now (end_status stale) → Ends (answers start more log) before now (end_status stale)
-    by_end true adds = adds
-    by_end false adds = adds
+-- what may follow a reader may follow it later
+follows : (old new : Reading) (unread : List ℕ) (more : Bool) → new.finished ≡ old.finished → MayFollow old unread more → MayFollow new unread more
+follows old new unread more same may = λ complete. may (sym same ∙ complete)
 
-pub stops-long : (start : History) (more : Bool) (log : List ℕ) (holding : Holding) (before now : Pieces) (old new : Reading) (stale : Bool)
-    → Partway start more log holding before now old stale → IsGoing more log old → Passes old new → more ≡ true
-    → EndsOrStops (answers start more log) before now (Err LongLog)
-stops-long start more log holding before now old new stale so_far going passes is =
-    let unfinished : old.finished ≡ false = going.complete ∙ ap not is in
-    lacks-line (skipping so_far.part passes.skipped [] passes.skips (so_far.left ∙ passes.left ∙ sym (append-nil passes.skipped))) before now log_too_long_line so_far.adds
-    (limit_short more log new.rest (length (so_far.part.lines ++ passes.skipped) + 1) is (going.after unfinished ∙ sym (passes.begun unfinished)) passes.short)
+-- an event was answered
+pub handled-event : (start : History) (more : Bool) (log unread : List ℕ) (holding later : Holding) (before now put : Pieces) (old new : Reading) (stale found : Bool) (happened : Event)
+    (answer : Answer) → IsPartway start more log unread holding before now old stale → Gives old new happened → AcceptsEvent StandsFor holding later happened answer
+    → Adds now put (answer_lines answer) → found ≡ has_findings answer → IsPartway start more log unread later before put new (stale || found)
+handled-event start more log unread holding later before now put old new stale found happened answer so_far gives accepts adds found_is =
+    let all = gives_all old new unread more happened so_far.may_follow gives in
+    let stands = so_far.partway.stands in
+    record {
+      may_follow = follows old new unread more gives.takes.finished so_far.may_follow;
+      partway = rw found_is (partway-answer start more log holding later before now put (fed_all old unread more) (fed_all new unread more) stale happened answer
+          so_far.partway so_far.going all (accepts.unrefused so_far.partway.part.moment stands) (accepts.answered so_far.partway.part.moment stands)
+          (accepts.stands so_far.partway.part.moment stands) adds);
+      going = going-takes more log (fed_all old unread more) (fed_all new unread more) _ so_far.going all.takes;
+    }
 
-pub stops-step : (start : History) (more : Bool) (log : List ℕ) (holding later : Holding) (before now : Pieces) (old new : Reading) (stale : Bool) (happened : Event) (number : ℕ)
-    (stop : Stop) → Partway start more log holding before now old stale → IsGoing more log old → Gives old new happened → number ≡ new.taken
+-- lines without an event were taken
+pub handled-rest : (start : History) (more : Bool) (log unread : List ℕ) (holding : Holding) (before now : Pieces) (old new : Reading) (stale : Bool)
+    → IsPartway start more log unread holding before now old stale → Passes old new → IsPartway start more log unread holding before now new stale
+handled-rest start more log unread holding before now old new stale so_far passes =
+    let takes = takes_all old new unread more passes.skipped so_far.may_follow passes.takes in
+    let part = so_far.partway.part in
+    record {
+      may_follow = follows old new unread more passes.takes.finished so_far.may_follow;
+      partway = record {
+        part = skipping part passes.skipped (left_of (fed_all new unread more)) passes.skips
+            (so_far.partway.left ∙ takes_left (fed_all old unread more) (fed_all new unread more) passes.skipped refl takes);
+        stands = so_far.partway.stands;
+        adds = so_far.partway.adds;
+        left = refl;
+        count = taken_count more log (fed_all old unread more) (fed_all new unread more) passes.skipped so_far.going takes
+            ∙ ap (λ (count : ℕ). count + length passes.skipped) so_far.partway.count ∙ sym (length-append part.lines passes.skipped);
+        stale_is = so_far.partway.stale_is;
+      };
+      going = going-takes more log (fed_all old unread more) (fed_all new unread more) passes.skipped so_far.going takes;
+    }
+
+pub ready : (old new : Reading) → Passes old new → IsReady new
+ready old new passes = record { unrefused = passes.takes.going; none = passes.none; no_end = passes.no_end; short = passes.short }
+
+-- an event is refused, or its answer wasn't put
+pub stops-step : (start : History) (more : Bool) (log unread : List ℕ) (holding later : Holding) (before now : Pieces) (old new : Reading) (stale : Bool) (happened : Event)
+    (number : ℕ) (stop : Stop) → IsPartway start more log unread holding before now old stale → Gives old new happened → number ≡ new.taken
     → HandlesEvent holding later happened number (Err stop) → EndsOrStops (answers start more log) before now (Err stop)
-stops-step start more log holding later before now old new stale happened number stop so_far going gives number_is handles =
+stops-step start more log unread holding later before now old new stale happened number stop so_far gives number_is handles =
     rw (handles.1, number_is)
-    (stops-event start more log holding before now old new stale happened handles.0 so_far going gives
-    (λ known. (handles.2 known).reason so_far.part.moment so_far.stands))
+    (stops-event start more log holding before now (fed_all old unread more) (fed_all new unread more) stale happened handles.0 so_far.partway so_far.going
+    (gives_all old new unread more happened so_far.may_follow gives) (λ known. (handles.2 known).reason so_far.partway.part.moment so_far.partway.stands))
+
+pub stops-answer : (start : History) (more : Bool) (log unread : List ℕ) (holding later : Holding) (before now put : Pieces) (old new : Reading) (stale : Bool) (happened : Event)
+    (answer : Answer) (stop : Stop) → IsPartway start more log unread holding before now old stale → Gives old new happened
+    → AcceptsEvent StandsFor holding later happened answer → PutsLines now put (answer_lines answer) (Err stop) → EndsOrStops (answers start more log) before put (Err stop)
+stops-answer start more log unread holding later before now put old new stale happened answer stop so_far gives accepts puts =
+    stops-put start more log holding before now put (fed_all old unread more) (fed_all new unread more) stale happened answer stop so_far.partway
+    (gives_all old new unread more happened so_far.may_follow gives) (accepts.unrefused so_far.partway.part.moment so_far.partway.stands)
+    (accepts.answered so_far.partway.part.moment so_far.partway.stands) puts
 
 -- the session takes one moment at most for an event, and the reader a byte at least
-pub time-kept : (start : History) (more : Bool) (log : List ℕ) (holding later : Holding) (before now : Pieces) (old new : Reading) (stale : Bool) (happened : Event) (answer : Answer)
-    → Partway start more log holding before now old stale → Gives old new happened → AcceptsEvent StandsFor holding later happened answer
-    → holding.happened + length old.rest ≤ length log → later.happened + length new.rest ≤ length log
-time-kept start more log holding later before now old new stale happened answer so_far gives accepts few_left =
-    let before_it = so_far.stands.has_all.time_is in
-    let after_it = (accepts.stands so_far.part.moment so_far.stands).has_all.time_is in
-    omega (arith, before_it, after_it, time-after happened so_far.part.moment, few_left, shorter old new happened gives)
+pub time-kept : (moment : History) (holding later : Holding) (old new : Reading) (happened : Event) (answer : Answer) (limit : ℕ) → StandsFor holding moment
+    → Gives old new happened → AcceptsEvent StandsFor holding later happened answer
+    → holding.happened + length old.rest ≤ limit → later.happened + length new.rest ≤ limit
+time-kept moment holding later old new happened answer limit stands gives accepts few_left =
+    let before_it = stands.has_all.time_is in
+    let after_it = (accepts.stands moment stands).has_all.time_is in
+    omega (arith, before_it, after_it, time-after happened moment, few_left, shorter old new happened gives)
 
-pub partway-on : (start : History) (more : Bool) (log : List ℕ) (holding later : Holding) (before now put : Pieces) (old new : Reading) (stale found : Bool) (happened : Event)
-    (answer : Answer) → Partway start more log holding before now old stale → IsGoing more log old → Gives old new happened
-    → AcceptsEvent StandsFor holding later happened answer → Adds now put (answer_lines answer) → found ≡ has_findings answer
-    → Partway start more log later before put new (stale || found)
-partway-on start more log holding later before now put old new stale found happened answer so_far going gives accepts adds found_is =
-    rw found_is (partway-answer start more log holding later before now put old new stale happened answer so_far going gives
-    (accepts.unrefused so_far.part.moment so_far.stands) (accepts.answered so_far.part.moment so_far.stands) (accepts.stands so_far.part.moment so_far.stands) adds)
+pub passes-shorter : (old new : Reading) → Passes old new → length new.rest ≤ length old.rest
+passes-shorter old new passes = omega (arith, few old.finished old.rest new.rest passes.skipped passes.takes.splits)

@@ -1,5 +1,5 @@
 -- How much of a job a sink was given, by how a run ends.
-use Rattle.std.specs.Prelude.{◌≡◌, ℕ, List, ◌∷◌, ◌++◌, Option, None, Some}
+use Rattle.std.specs.Prelude.{◌≡◌, ℕ, List, [], ◌∷◌, ◌++◌, Option, None, Some}
 use Rattle.outside.specs.Sink.{PutsBytePrefix}
 use Rattle.rights.specs.Jobs.{Job, IsOutcomeOf, HasReached}
 use Rattle.rights.specs.Outcome.{Outcome}
@@ -48,11 +48,11 @@ pub record StopsWithin (job : Job) (AddsNext : Option (List (List ℕ)) → List
   pub reaches : HasReached job lines next
   pub adds : AddsNext (after_lines before lines) next
 
--- An end that is no fault is that of the outcome, which was written. Where a put failed, the lines of what was handled
--- were put, and of the next step's a proper prefix with at most one truncated line; where memory ran out, a prefix. A
--- read fails before the first line is handled.
+-- An end that is no fault is that of the outcome, which was written. Where a read failed, the lines of what was handled
+-- were put, and nothing of what comes next. Where a put failed, of the next step's lines a proper prefix was put too, with
+-- at most one truncated line; where memory ran out, a prefix.
 abbrev pub Ends : Job → Option (List (List ℕ)) → Option (List (List ℕ)) → Status → Type 0
-Ends job before now ReadFailed = ⊥
+Ends job before now ReadFailed = StopsWithin job (λ handled next. (next ≡ []) × (now ≡ handled)) before
 Ends job before now WriteFailed = StopsWithin job (λ handled next. AddsTruncated handled now next) before
 Ends job before now OutOfMemory = StopsWithin job (λ handled next. AddsPrefix handled now next) before
 Ends job before now status = AddsOutcome job before now status

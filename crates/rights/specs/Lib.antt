@@ -3,7 +3,9 @@ pub mod Ends
 pub mod HandledLines
 pub mod Jobs
 pub mod LineByLine
+pub mod LogPieces
 pub mod Outcome
+pub mod Partway
 pub mod Reads
 pub mod Run
 pub mod Statuses

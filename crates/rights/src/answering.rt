@@ -1,16 +1,15 @@
-//! The answers to the events of a log, one after another.
+//! The answers to the lines of a log that have come to their end, one after another.
 
-ghost use Rattle.std.specs.Prelude.{◌≡◌, ◌⊎◌, ◌+◌, ◌<◌, ◌≤◌, ◌^◌, length, None, Err, IfOk, not};
+ghost use Rattle.std.specs.Prelude.{◌≡◌, ◌≢◌, ℕ, ◌+◌, ◌<◌, ◌≤◌, ◌^◌, Bool, List, length, Option, None, Err, IfOk};
 ghost use Rattle.audit_core.specs.Standing.{StandsFor};
-ghost use Rattle.history_model.specs.History.{Start, History, begun as begun_at};
+ghost use Rattle.history_model.specs.History.{History};
 ghost use Rattle.rights_report.specs.AnswerLines.{answer_lines as lines_of_answer};
 ghost use Rattle.outside.specs.Count.{Rose};
 ghost use Rattle.rights.specs.HandledLines.{log_limit};
-ghost use Rattle.rights.specs.Jobs.{answers};
-ghost use Rattle.rights.specs.Outcome.{end_status, has_findings as has_some};
-ghost use Rattle.rights.specs.Stopping.{EndsOrStops, HandlesEvent, PutsLines, ReadsNext};
+ghost use Rattle.rights.specs.Outcome.{has_findings as has_some};
+ghost use Rattle.rights.specs.Partway.{Handled, IsPartway, IsReady};
+ghost use Rattle.rights.specs.Stopping.{HandlesEvent, PutsLines, ReadsNext};
 
-use crate::statuses::Status;
 use crate::stopping::{Stop, stop_of_event, stop_of_line};
 use audit_core::Session;
 use edit_log::Lines;
@@ -18,56 +17,43 @@ use history_model::answers::Answer;
 use history_model::events::Event;
 use outside::Sink;
 use phys_view::{Ledger, Steps};
-use rights_report::{line, line_count};
-use std::alloc::{AllocError, Global};
+use rights_report::{line_count, write_line};
 
-/// Answers the events of a log in their order, up to the first line that is refused. Each line of output is one put.
+/// Answers the lines of a log that have come to their end, up to the first that is refused. Each line of output is one
+/// put.
 ///
-/// `log` is what was read of the log: the whole, or where there is `more` the bytes up to the limit. Then the run stops
-/// with a refusal: of a line in them, else of the log.
-pub fn answer_lines<K: Sink, L: Ledger>(
-    alloc: Global,
+/// It answers whether one of these lines is a point that found a stale translation. What `text` holds is no matter.
+pub fn answer_ready<K: Sink, L: Ledger>(
     session: &mut Session<'_, L>,
-    log: &[u8],
-    more: bool,
+    lines: &mut Lines,
+    text: &mut String,
     out: &mut K,
     steps: &mut Steps<L>,
-) -> Result<Status, Stop>
-    requires begun { (start : Start) × StandsFor session.old (begun_at start) }
-    requires limit { length log.now ≤ log_limit }
-    ensures ends { (start : History) → StandsFor session.old start
-        → EndsOrStops (answers start more log.now) (K.pieces out.old) (K.pieces out.new) result }
+) -> Result<bool, Stop>
+    requires unrefused { lines.old.refused ≡ None }
+    requires stands { (moment : History) × StandsFor session.old moment }
+    requires time { session.old.happened + length lines.old.rest ≤ log_limit }
+    ensures handled { (start : History) (more : Bool) (log unread : List ℕ)
+        (before : Option (List (List ℕ))) (stale : Bool)
+        → IsPartway start more log unread session.old before (K.pieces out.old) lines.old stale
+        → Handled start more log unread session.new before (K.pieces out.new) lines.new
+        stale result }
+    ensures ready { IfOk result (λ _. IsReady lines.new) }
+    ensures finished { IfOk result (λ _. lines.new.finished ≡ lines.old.finished) }
+    ensures time { IfOk result (λ _. session.new.happened + length lines.new.rest
+        ≤ session.old.happened + length lines.old.rest) }
+    ensures reads { result ≢ Err Stop.Read }
     ensures cause { result ≡ Err Stop.Put → Rose (K.faults out.old) (K.faults out.new) }
     ensures count { K.faults out.old ≤ K.faults out.new }
-
-    // For the caller's proof.
-    ensures among { IfOk result (λ status. (status ≡ Status.Answered) ⊎ (status ≡ Status.Stale)) }
 {
-    let mut lines = reader(alloc, log, more)?;
     let mut stale = false;
-    'events: while let Some(event) = next_event(&mut lines)? {
+    'events: while let Some(event) = next_event(lines)? {
         let number = lines.line();
         let answer = step(session, &event, number, steps)?;
-        put_answer(alloc, &answer, out)?;
+        put_answer(&answer, text, out)?;
         stale |= has_findings(&answer);
     }
-    if more {
-        return Err(Stop::LongLog);
-    }
-    Ok(end(stale))
-}
-
-/// A reader of what was read of a log.
-fn reader(alloc: Global, log: &[u8], more: bool) -> Result<Lines, AllocError>
-    ensures { IfOk result (λ lines. lines
-        ≡ record { rest = log.now; taken = 0; finished = not more; refused = None }) }
-{
-    let mut lines = Lines::new(alloc);
-    lines.feed(log)?;
-    if !more {
-        lines.finish();
-    }
-    Ok(lines)
+    Ok(stale)
 }
 
 /// The event of the next line that isn't skipped; none where each line that has come to its end is taken.
@@ -94,16 +80,16 @@ fn step<L: Ledger>(
     answer.map_err(|fault| stop_of_event(number, fault))
 }
 
-/// Puts the lines of an answer, each as one piece.
-fn put_answer<K: Sink>(alloc: Global, answer: &Answer, out: &mut K) -> Result<(), Stop>
+/// Puts the lines of an answer, each as one piece, by way of a text that is kept from line to line.
+fn put_answer<K: Sink>(answer: &Answer, text: &mut String, out: &mut K) -> Result<(), Stop>
     ensures puts { PutsLines (K.pieces out.old) (K.pieces out.new)
         (lines_of_answer answer.now) result }
     ensures cause { result ≡ Err Stop.Put → Rose (K.faults out.old) (K.faults out.new) }
     ensures count { K.faults out.old ≤ K.faults out.new }
 {
     for index in 0..line_count(answer) {
-        let text = line(alloc, answer, index)?;
-        out.put(text.as_slice())?;
+        write_line(text, answer, index)?;
+        out.put(text.as_bytes())?;
     }
     Ok(())
 }
@@ -115,16 +101,5 @@ fn has_findings(answer: &Answer) -> bool
     match answer {
         Answer::Verdict(findings) => !findings.as_slice().is_empty(),
         _ => false,
-    }
-}
-
-/// How a run ends after the last line of a log.
-fn end(stale: bool) -> Status
-    ensures { result ≡ end_status stale }
-{
-    if stale {
-        Status::Stale
-    } else {
-        Status::Answered
     }
 }

@@ -26,11 +26,14 @@ pub fn a_log_is_answered_line_by_line()
 {}
 
 /// Where an outcome exists, what was put before a put failed begins it: whole lines, and of the next one a prefix of
-/// its bytes at most. Where memory ran out, whole lines were put.
+/// its bytes at most. Where a read failed or memory ran out, whole lines were put.
 pub fn what_was_put_begins_the_outcome()
     ensures write_failed { (job : Job) (outcome : Outcome) (before now : Option (List (List ℕ)))
         → IsOutcomeOf job outcome → Ends job before now Status.WriteFailed
         → AddsTruncated before now outcome.lines }
+    ensures read_failed { (job : Job) (outcome : Outcome) (before now : Option (List (List ℕ)))
+        → IsOutcomeOf job outcome → Ends job before now Status.ReadFailed
+        → AddsPrefix before now outcome.lines }
     ensures out_of_memory { (job : Job) (outcome : Outcome) (before now : Option (List (List ℕ)))
         → IsOutcomeOf job outcome → Ends job before now Status.OutOfMemory
         → AddsPrefix before now outcome.lines }

@@ -14,6 +14,7 @@ ghost use Rattle.outside.specs.WriterSink.{waiting_bytes, write_fault_count};
 ghost use Rattle.rights.specs.Arguments.{form_of as form_of_texts, texts, HasNoForm, IsNamed, IsRun};
 ghost use Rattle.rights.specs.Ends.{AddsOutcome, Ends};
 ghost use Rattle.rights.specs.Jobs.{one_line};
+ghost use Rattle.rights.specs.LogPieces.{FailsAtReach};
 ghost use Rattle.rights.specs.Reads.{FailedToRead, FailsOnlyBy, ReadsOnly};
 ghost use Rattle.rights.specs.Run.{EndsForFiles, EndsWith, IsAccepted, IsUnread, job_of};
 ghost use Rattle.rights_report.specs.FixedLines.{usage_line};
@@ -22,6 +23,7 @@ mod answering;
 mod arguments;
 mod examples;
 mod laws;
+mod log_reading;
 mod program;
 mod statuses;
 mod stopping;
@@ -130,6 +132,11 @@ fn run_uncounted<S: Shelf, K: Sink>(
         × (IsUnread (K.pieces out.old) (K.pieces out.new) status
         ⊎ EndsForFiles (S.known shelf.old core) (S.known shelf.old log)
         (K.pieces out.old) (K.pieces out.new) status)) }
+    ensures read_failed { (core log bytes : List ℕ) → IsRun arguments.now core log
+        → S.known shelf.old log ≡ has_bytes bytes
+        → EndsWith result (λ status. status ≡ Status.ReadFailed
+        → FailsAtReach core log (S.known shelf.old core) bytes
+        (S.reach shelf.old log) (S.reach shelf.new log) (K.pieces out.old) (K.pieces out.new)) }
     ensures causes { EndsWith result (FailsOnlyBy
         ((core log : List ℕ) × IsRun arguments.now core log
         × FailedToRead (S.known shelf.old) (S.faults shelf.old) (S.faults shelf.new) core log)
@@ -174,6 +181,11 @@ fn run_with<S: Shelf, K: Sink, B: Books>(
         × (IsUnread (K.pieces out.old) (K.pieces out.new) status
         ⊎ EndsForFiles (S.known shelf.old core) (S.known shelf.old log)
         (K.pieces out.old) (K.pieces out.new) status)) }
+    ensures read_failed { (core log bytes : List ℕ) → IsRun arguments.now core log
+        → S.known shelf.old log ≡ has_bytes bytes
+        → EndsWith result (λ status. status ≡ Status.ReadFailed
+        → FailsAtReach core log (S.known shelf.old core) bytes
+        (S.reach shelf.old log) (S.reach shelf.new log) (K.pieces out.old) (K.pieces out.new)) }
     ensures causes { EndsWith result (FailsOnlyBy
         ((core log : List ℕ) × IsRun arguments.now core log
         × FailedToRead (S.known shelf.old) (S.faults shelf.old) (S.faults shelf.new) core log)

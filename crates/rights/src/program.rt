@@ -1,20 +1,19 @@
 //! The top call.
 
-ghost use Rattle.std.specs.Prelude.{◌≡◌, ◌≢◌, ◌⊎◌, ◌≤◌, ℕ, List};
-ghost use Rattle.audit_core.specs.Standing.{StandsFor};
-ghost use Rattle.history_model.specs.History.{Start, History, begun as begun_at};
+ghost use Rattle.std.specs.Prelude.{◌≡◌, ◌≢◌, ◌⊎◌, ◌≤◌, ℕ, List, Err, IfOk};
 ghost use Rattle.outside.specs.Count.{Rose};
 ghost use Rattle.outside.specs.Shelf.{has_bytes};
 ghost use Rattle.rights.specs.Arguments.{form_of as form_of_texts, texts, HasNoForm, IsNamed, IsRun};
 ghost use Rattle.rights.specs.Ends.{AddsOutcome, Ends};
 ghost use Rattle.rights_report.specs.FixedLines.{usage_line};
 ghost use Rattle.rights.specs.Jobs.{one_line};
-ghost use Rattle.rights.specs.Reads.{FailedAt, FailedToRead, FailsOnlyBy, ReadsOnly};
+ghost use Rattle.rights.specs.LogPieces.{FailsAtReach};
+ghost use Rattle.rights.specs.Reads.{FailedToRead, FailsOnlyBy, ReadsOnly};
 ghost use Rattle.rights.specs.Run.{EndsForFiles, EndsWith, IsAccepted, IsUnread, job_of};
-ghost use Rattle.rights.specs.Stopping.{end_of, StopsForFiles, StopsForLog};
+ghost use Rattle.rights.specs.Stopping.{end_of, StopsForFiles};
 
-use crate::answering::answer_lines;
 use crate::arguments::{Form, form_of};
+use crate::log_reading::answer_log;
 use crate::statuses::Status;
 use crate::stopping::{Stop, finish};
 use audit_core::Session;
@@ -25,9 +24,6 @@ use std::alloc::Global;
 
 /// The greatest length of a core in bytes.
 pub const CORE_LIMIT: u64 = 2_147_483_648;
-
-/// The greatest length of a log in bytes.
-pub const LOG_LIMIT: u64 = 268_435_456;
 
 /// Does all that the program does: answers the lines of a log about a core.
 ///
@@ -41,7 +37,7 @@ pub const LOG_LIMIT: u64 = 268_435_456;
 /// | 2 | the arguments have no known form | the usage line |
 /// | 3 | the core is refused | the outcome: the refusal |
 /// | 4 | a line of the log, or its length, is refused | the outcome: the answers before, and the refusal |
-/// | 5 | a read of a file failed | nothing |
+/// | 5 | a read of a file failed | the answers to the lines of the log that end in what was read of it |
 /// | 6 | a put failed | the lines of what was handled, and of the next ones a part, the last truncated |
 /// | 7 | out of memory | the lines of what was handled, and of the next ones a part |
 pub fn run<S: Shelf, K: Sink, L: Ledger>(
@@ -63,6 +59,13 @@ pub fn run<S: Shelf, K: Sink, L: Ledger>(
         × (IsUnread (K.pieces out.old) (K.pieces out.new) status
         ⊎ EndsForFiles (S.known shelf.old core) (S.known shelf.old log)
         (K.pieces out.old) (K.pieces out.new) status)) }
+
+    // With status 5 the answers to the lines that end in what was read of the log were written, and nothing else.
+    ensures read_failed { (core log bytes : List ℕ) → IsRun arguments.now core log
+        → S.known shelf.old log ≡ has_bytes bytes
+        → EndsWith result (λ status. status ≡ Status.ReadFailed
+        → FailsAtReach core log (S.known shelf.old core) bytes
+        (S.reach shelf.old log) (S.reach shelf.new log) (K.pieces out.old) (K.pieces out.new)) }
 
     // Faults have causes: reads failed of the core, or of the log of an accepted core; a put failed.
     ensures causes { EndsWith result (FailsOnlyBy
@@ -109,6 +112,11 @@ fn answer<S: Shelf, K: Sink, L: Ledger>(
     ensures ends { IsUnread (K.pieces out.old) (K.pieces out.new) result
         ⊎ EndsForFiles (S.known shelf.old core.now) (S.known shelf.old log.now)
         (K.pieces out.old) (K.pieces out.new) result }
+    ensures read_failed { (bytes : List ℕ) → S.known shelf.old log.now ≡ has_bytes bytes
+        → result ≡ Status.ReadFailed
+        → FailsAtReach core.now log.now (S.known shelf.old core.now) bytes
+        (S.reach shelf.old log.now) (S.reach shelf.new log.now)
+        (K.pieces out.old) (K.pieces out.new) }
     ensures causes { FailsOnlyBy
         (FailedToRead (S.known shelf.old) (S.faults shelf.old) (S.faults shelf.new)
         core.now log.now)
@@ -150,6 +158,11 @@ fn answer_files<S: Shelf, K: Sink, L: Ledger>(
     ensures ends { IsUnread (K.pieces out.old) (K.pieces out.new) (end_of result)
         ⊎ StopsForFiles (S.known shelf.old core.now) (S.known shelf.old log.now)
         (K.pieces out.old) (K.pieces out.new) result }
+    ensures read_failed { (bytes : List ℕ) → S.known shelf.old log.now ≡ has_bytes bytes
+        → result ≡ Err Stop.Read
+        → FailsAtReach core.now log.now (S.known shelf.old core.now) bytes
+        (S.reach shelf.old log.now) (S.reach shelf.new log.now)
+        (K.pieces out.old) (K.pieces out.new) }
     ensures causes { FailsOnlyBy
         (FailedToRead (S.known shelf.old) (S.faults shelf.old) (S.faults shelf.new)
         core.now log.now)
@@ -161,6 +174,9 @@ fn answer_files<S: Shelf, K: Sink, L: Ledger>(
         → ¬ IsAccepted bytes → log.now ≢ core.now
         → S.reach shelf.new log.now ≡ S.reach shelf.old log.now }
     ensures write_count { K.faults out.old ≤ K.faults out.new }
+
+    // For the caller's proof.
+    ensures ended { IfOk result (λ status. status ≢ Status.ReadFailed) }
 {
     let file = read_all(alloc, shelf, core, CORE_LIMIT)?;
     if file.cut {
@@ -169,30 +185,4 @@ fn answer_files<S: Shelf, K: Sink, L: Ledger>(
     let core = parse(alloc, &file.bytes)?;
     let mut session: Session<'_, L> = Session::start(alloc, core)?;
     answer_log(alloc, &mut session, log, shelf, out, steps)
-}
-
-/// Reads a log, and answers its lines from the first event on.
-fn answer_log<S: Shelf, K: Sink, L: Ledger>(
-    alloc: Global,
-    session: &mut Session<'_, L>,
-    log: &str,
-    shelf: &mut S,
-    out: &mut K,
-    steps: &mut Steps<L>,
-) -> Result<Status, Stop>
-    requires { (start : Start) × StandsFor session.old (begun_at start) }
-    ensures ends { (start : History) → StandsFor session.old start
-        → IsUnread (K.pieces out.old) (K.pieces out.new) (end_of result)
-        ⊎ StopsForLog start (S.known shelf.old log.now)
-        (K.pieces out.old) (K.pieces out.new) result }
-    ensures causes { FailsOnlyBy
-        (FailedAt (S.faults shelf.old) (S.faults shelf.new) log.now)
-        (Rose (K.faults out.old) (K.faults out.new)) (end_of result) }
-    ensures reads { ReadsOnly (λ n. n ≡ log.now)
-        (S.known shelf.old) (S.known shelf.new) (S.reach shelf.old) (S.reach shelf.new)
-        (S.faults shelf.old) (S.faults shelf.new) }
-    ensures write_count { K.faults out.old ≤ K.faults out.new }
-{
-    let file = read_all(alloc, shelf, log, LOG_LIMIT)?;
-    answer_lines(alloc, session, &file.bytes, file.cut, out, steps)
 }

@@ -1,7 +1,7 @@
 //! Runs over files in memory, whose outputs were worked out by hand.
 
 use super::*;
-use outside::{MemShelf, MemSink};
+use outside::{Failed, MemShelf, MemSink, Shelf};
 use std::alloc::{AllocError, Global};
 use std::test::Fail;
 use test_support::cores::{
@@ -362,6 +362,143 @@ fn faults_end_a_run(rt: HostRuntime) -> Result<(), Fail> {
     assert_eq!(rt; out.bytes(), b"".as_slice());
     assert_eq!(rt; run_uncounted(alloc, &words, &mut shelf, &mut out), 0);
     assert_eq!(rt; out.bytes(), b"granted 0x5000\n".as_slice());
+    Ok(())
+}
+
+/// Each read fails in turn. What is written are the answers to the lines that end in what was read before.
+#[test]
+fn lines_are_answered_before_the_next_read(rt: HostRuntime) -> Result<(), Fail> {
+    let alloc = rt.alloc();
+    let core = example_core(alloc)?;
+    let mut log = Vec::new(alloc);
+    let mut text = Vec::new(alloc);
+    for _ in 0..10_000u32 {
+        log.extend_from_slice(b"ask 0 ur 0x0\n")?;
+        text.extend_from_slice(b"granted 0x5000\n")?;
+    }
+    let mut counts = Vec::new(alloc);
+    for call in 1..10u64 {
+        let mut shelf = MemShelf::new(alloc);
+        let mut out = MemSink::new(alloc);
+        shelf.add("core", &core)?;
+        shelf.add("log", &log)?;
+        shelf.fail(call)?;
+        let status = run_uncounted(alloc, &["run", "core", "log"], &mut shelf, &mut out);
+        let written = out.bytes();
+        assert!(rt; text.starts_with(written));
+        counts.push((written.len() / b"granted 0x5000\n".len(), status))?;
+    }
+    // The core is read by three calls, and the log by three.
+    assert!(rt;
+        counts.as_slice()
+            == [
+                (0, 5),
+                (0, 5),
+                (0, 5),
+                (0, 5),
+                (5_041, 5),
+                (10_000, 5),
+                (10_000, 0),
+                (10_000, 0),
+                (10_000, 0),
+            ]
+            .as_slice()
+    );
+    Ok(())
+}
+
+#[test]
+fn a_line_is_read_whole_where_a_piece_ends_in_it(rt: HostRuntime) -> Result<(), Fail> {
+    let core = example_core(rt.alloc())?;
+    // The first piece ends after 5,536 bytes of the comment.
+    for (length, text, status) in [
+        (8_300, b"granted 0x5000\n".as_slice(), 0),
+        (8_301, b"line 60001 refused: too long\n".as_slice(), 4),
+    ] {
+        let mut log = vec![in rt.alloc(); b'\n'; 60_000]?;
+        log.extend_from_slice(&vec![in rt.alloc(); b'#'; length]?)?;
+        log.extend_from_slice(b"\nask 0 ur 0x0\n")?;
+        let (written, code) = outcome(rt.alloc(), &core, &log)?;
+        assert_eq!(rt; written.as_slice(), text);
+        assert_eq!(rt; code, status);
+    }
+    Ok(())
+}
+
+/// A shelf whose log is another one from its second read on.
+#[derive(Drop)]
+struct ChangingShelf<'a> {
+    core: &'a [u8],
+    first: &'a [u8],
+    later: &'a [u8],
+    is_read: bool,
+}
+
+impl Shelf for ChangingShelf<'_> {
+    ghost use Rattle.std.specs.Prelude.{◌≤◌, length, drop, IfOk, ◌≡◌};
+    ghost use Rattle.std.proofs.Common.{rules};
+    ghost use Rattle.outside.specs.Shelf.{unspecified};
+
+    ghost known = { λ _ _. unspecified };
+
+    ghost reach = { λ _ _. 0 };
+
+    ghost faults = { λ _ _. 0 };
+
+    ghost reach_within = { Prim.search rules };
+
+    fn read_at(&mut self, name: &str, at: u64, into: &mut [u8]) -> Result<usize, Failed> {
+        let bytes = match (name, self.is_read) {
+            ("core", _) => self.core,
+            (_, false) => self.first,
+            (_, true) => self.later,
+        };
+        self.is_read |= name != "core";
+        let left = bytes.get(at as usize..).unwrap_or(&[]);
+        let count = left.len().min(into.len());
+        into[..count].copy_from_slice(&left[..count]);
+        Ok(count)
+    }
+}
+
+#[test]
+fn a_log_that_changes_is_answered_as_it_was_read(rt: HostRuntime) -> Result<(), Fail> {
+    let alloc = rt.alloc();
+    let core = example_core(alloc)?;
+    let cases: [(&[u8], &[u8], &[u8], u8); 3] = [
+        // It grows, and a line ends later.
+        (
+            b"ask 0 ur 0x0\nask 0 s",
+            b"ask 0 ur 0x0\nask 0 sr 0x1234\nask 0 sr 0x0\n",
+            b"granted 0x5000\ngranted 0x6234\ngranted 0x5000\n",
+            0,
+        ),
+        // It shrinks, and the last line is what was read of it.
+        (
+            b"ask 0 ur 0x0\nask 0 sr 0x12",
+            b"",
+            b"granted 0x5000\ngranted 0x5012\n",
+            0,
+        ),
+        (
+            b"ask 0 ur 0x0\nask 0 sr",
+            b"ask",
+            b"granted 0x5000\nline 2 refused: syntax\n",
+            4,
+        ),
+    ];
+    for (first, later, text, status) in cases {
+        let mut shelf = ChangingShelf {
+            core: &core,
+            first,
+            later,
+            is_read: false,
+        };
+        let mut out = MemSink::new(alloc);
+        let code = run_uncounted(alloc, &["run", "core", "log"], &mut shelf, &mut out);
+        assert_eq!(rt; out.bytes(), text);
+        assert_eq!(rt; code, status);
+    }
     Ok(())
 }
 

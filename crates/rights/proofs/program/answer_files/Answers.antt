@@ -8,7 +8,7 @@ use Rattle.rights_report.specs.FixedLines.{core_too_long_line}
 use Rattle.rights.specs.Run.{core_limit, IsAccepted, IsUnread}
 use Rattle.rights.specs.Stopping.{end_of, stop_of_core, StopsForFiles}
 use Rattle.rights.specs.declared.stopping.Stop.TheVariants.{LongCore}
-use Rattle.rights.proofs.FileReading.{core_by, for_files, is_accepted, limit_of, long_core, refused-core, stands, stops-core, stops-refused, within_of}
+use Rattle.rights.proofs.FileReading.{core_by, fails-after, for_files, is_accepted, limit_of, long_core, refused-core, stands, stops-core, stops-refused, within_of}
 use Rattle.rights.proofs.Completeness.{may_be-known}
 use Rattle.rights.proofs.Finishing.{by_err}
 use Rattle.rights.proofs.program.answer_files.Goals as goal
@@ -84,3 +84,15 @@ returns-clause-log_unread g c = λ bytes known refused other.
     let core_is = core_by c.in_ok-file.file.bytes.items (Ok c.in_ok-core.core) (limit_of _ core_limit c.in_ok-file.file.bytes.items read) is in
     let same : c.in_ok-file.file.bytes.items ≡ bytes = may_be-known _ bytes c.in_ok-file.file.bytes.items known (within_of _ core_limit c.in_ok-file.file.bytes.items read) in
     absurd (refused (subst (λ b. IsAccepted b) same (is_accepted c.in_ok-file.file.bytes.items c.in_ok-core.core core_is)))
+
+pub returns-clause-read_failed : goal.returns-clause-read_failed
+returns-clause-read_failed g c = λ bytes known failed.
+    let read = rw c.if-file.false at
+    (stands (g.S.Shelf.known c.args.shelf.now c.args.core.now) core_limit _ c.in_ok-file.file.bytes.items c.in_ok-file.file.cut c.in_ok-file.file.bytes.ok.0
+    c.in_ok-file.ensures.whole c.in_ok-file.ensures.missing c.in_ok-file.ensures.bound c.in_ok-file.ensures.cut) in
+    let is : core_of c.in_ok-file.file.bytes.items ≡ Ok c.in_ok-core.core = rw c.deref.ensures.value at c.in_ok-core.ensures.ok in
+    fails-after (g.S.Shelf.known c.args.shelf.now c.args.core.now) c.args.core.now c.args.log.now c.in_ok-file.file.bytes.items bytes c.in_ok-core.core
+    (within_of _ core_limit c.in_ok-file.file.bytes.items read)
+    (core_by c.in_ok-file.file.bytes.items (Ok c.in_ok-core.core) (limit_of _ core_limit c.in_ok-file.file.bytes.items read) is)
+    (c.in_ok-file.ensures.others c.args.log.now)
+    (c.answer_log.ensures.read_failed (begun (core_start c.in_ok-core.core)) bytes c.in_ok-session.ensures (c.in_ok-file.ensures.known c.args.log.now ∙ known) failed)
