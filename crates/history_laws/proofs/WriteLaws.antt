@@ -1,19 +1,23 @@
--- What a write leaves of memory, and of the tables that a space uses.
+-- What a write leaves of memory, of walks, and of the tables that a space uses.
 use Rattle.std.proofs.Common.{◌≡◌, ℕ, zero, suc, ◌+◌, ◌*◌, ◌%◌, ◌<◌, ◌≤◌, ◌⊎◌, inl, inr, Bool, true, false, List, length, Option, Some, refl, sym, ap, ◌∙◌, arith}
 use Rattle.std.proofs.lemmas.Bool.{cases_lt}
 use Rattle.std.proofs.lemmas.Bool.Decides.{nat_tests}
 use Rattle.std.specs.Prelude.{◌↔◌, ◌&&◌, if◌then◌else◌, is_some, nat_le, nat_lt, option_and_then, option_map, slice_index, ◌-◌}
 use Rattle.paging_model.specs.LinearAddress.{index}
 use Rattle.paging_model.specs.Memory.{Memory, entry_at, number_at}
-use Rattle.paging_model.specs.Walking.{entry_address}
 use Rattle.paging_model.specs.declared.spaces.SpaceKey.{SpaceKey}
 use Rattle.paging_model.specs.declared.spaces.TableUse.{TableUse}
-use Rattle.paging_laws.proofs.Readings.{Reaches-back, use-alike}
+use Rattle.paging_model.specs.Walking.{entry_address, walk}
+use Rattle.paging_model.specs.declared.entries.Bits.{Bits}
+use Rattle.paging_model.specs.declared.registers.Settings.{Settings}
+use Rattle.paging_model.specs.TableUses.{Reaches}
+use Rattle.paging_laws.proofs.Readings.{Reaches-back, use-alike, walk-alike}
 use Rattle.paging_laws.proofs.TableFrames.{Reaches-aligned}
-use Rattle.paging_laws.specs.ReadEntries.{ReadAlikeAbove}
+use Rattle.paging_laws.specs.ReadEntries.{ReadAlike, ReadAlikeAbove}
 use Rattle.history_model.specs.History.{with_bytes}
 use Rattle.history_model.specs.KeptSpaces.{IsWrittenSlot}
 use Rattle.history_laws.specs.UntouchedUses.{IsUntouched}
+use Rattle.history_laws.specs.WrittenSlots.{ReadsNoWrittenSlot}
 
 -- an address lies outside of so many bytes from an address on
 abbrev IsOutside : ℕ → ℕ → ℕ → Type 0
@@ -50,7 +54,7 @@ unwritten_sides at n slot aligned unwritten = elim (cases_lt slot (at + n)) [
 ]
 
 -- an entry in a slot that a write doesn't touch is as before
-entry_at-unwritten : (at : ℕ) (bytes : List ℕ) (before : Memory) (slot : ℕ) → slot % 8 ≡ 0 → (IsWrittenSlot at (length bytes) slot → ⊥)
+pub entry_at-unwritten : (at : ℕ) (bytes : List ℕ) (before : Memory) (slot : ℕ) → slot % 8 ≡ 0 → (IsWrittenSlot at (length bytes) slot → ⊥)
     → entry_at (with_bytes at bytes before) slot ≡ entry_at before slot
 unfolding entry_at
 entry_at-unwritten at bytes before slot aligned unwritten =
@@ -96,3 +100,24 @@ untouched_as_before before at bytes key table aligned = (
   untouched_there at (length bytes) (with_bytes at bytes before) before key table (λ slot whole unwritten. entry_at-unwritten at bytes before slot whole unwritten) aligned,
   untouched_there at (length bytes) before (with_bytes at bytes before) key table (λ slot whole unwritten. sym (entry_at-unwritten at bytes before slot whole unwritten)) aligned,
 )
+
+-- a walk that reads no written slot in the one memory is the same in the other
+walk_there : (at n : ℕ) (one other : Memory) (settings : Settings) (root x : ℕ) → AreAlikeBut at n one other → root % 4096 ≡ 0
+    → ReadsNoWrittenSlot one settings root x at n → walk one settings root x ≡ walk other settings root x
+walk_there at n one other settings root x same aligned none =
+    let alike : ReadAlike one other settings root x =
+    λ level table above reached.
+    same (entry_address level x table) (whole_entry table (index level x) (Reaches-aligned aligned reached)) (none level table above reached) in
+    walk-alike one other settings root x alike
+
+pub walk_past : (before : Memory) (at : ℕ) (bytes : List ℕ) (settings : Settings) (root x : ℕ) → root % 4096 ≡ 0
+    → ReadsNoWrittenSlot before settings root x at (length bytes) → walk (with_bytes at bytes before) settings root x ≡ walk before settings root x
+walk_past before at bytes settings root x aligned none =
+    sym (walk_there at (length bytes) before (with_bytes at bytes before) settings root x
+    (λ slot whole unwritten. sym (entry_at-unwritten at bytes before slot whole unwritten)) aligned none)
+
+pub walk_past-after : (before : Memory) (at : ℕ) (bytes : List ℕ) (settings : Settings) (root x : ℕ) → root % 4096 ≡ 0
+    → ReadsNoWrittenSlot (with_bytes at bytes before) settings root x at (length bytes) → walk (with_bytes at bytes before) settings root x ≡ walk before settings root x
+walk_past-after before at bytes settings root x aligned none =
+    walk_there at (length bytes) (with_bytes at bytes before) before settings root x
+    (λ slot whole unwritten. entry_at-unwritten at bytes before slot whole unwritten) aligned none

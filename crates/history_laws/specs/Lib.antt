@@ -4,3 +4,4 @@ pub mod HeldLevels
 pub mod Executing
 pub mod UntouchedUses
 pub mod Costs
+pub mod WrittenSlots

@@ -9,3 +9,4 @@ pub mod bounds;
 pub mod points;
 pub mod spaces;
 pub mod translations;
+pub mod writes;
