@@ -321,7 +321,9 @@ class Statuses(Program):
         self.write("log", b"ask 0 ur 0x0\n", size)
         limit = limited(resource.RLIMIT_AS, 64 * MEBIBYTE)
         self.ends(["run", "core", "example.log"], 7, limit=limit)
-        self.ends(["run", "example.core", "log"], 7, limit=limit)
+        # A log isn't held, however long it is.
+        text = b"granted 0x5000\nline 2 refused: too long\n"
+        self.ends(["run", "example.core", "log"], 4, text, limit)
         self.ends(["run", "example.core", "example.log"], 0, (CRATE / "stdout").read_bytes(), limit)
 
     def test_9_arguments_that_are_no_text(self):
