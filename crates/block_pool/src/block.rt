@@ -43,14 +43,16 @@ impl Block {
     /// Replaces the bytes from the offset `at` on by these.
     pub fn put(&mut self, at: usize, bytes: &[u8])
         requires { at + length bytes.now ≤ 4096 }
-        ensures { self.new ≡ block_with self.old at bytes.now }
+        ensures value { self.new ≡ block_with self.old at bytes.now }
+        ensures len { length self.old ≡ 4096 }
     {
         self.bytes[at..at + bytes.len()].copy_from_slice(bytes);
     }
 
     /// Replaces all bytes by zeros.
     pub(crate) fn clear(&mut self)
-        ensures { IsZero self.new }
+        ensures zero { IsZero self.new }
+        ensures len { length self.new ≡ 4096 }
     {
         self.bytes.as_mut_slice().fill(0);
     }

@@ -1,6 +1,6 @@
 //! Blocks in use and spare ones.
 
-ghost use Rattle.std.specs.Prelude.{◌≡◌, ◌+◌, ◌-◌, ◌≤◌, max, OnOk, OnErr, IsOk};
+ghost use Rattle.std.specs.Prelude.{◌≡◌, ◌+◌, ◌-◌, ◌≤◌, length, max, OnOk, OnErr, IsOk};
 ghost use Rattle.block_pool.specs.Blocks.{Counts, IsZero, block_count};
 
 use crate::block::Block;
@@ -75,6 +75,7 @@ impl Pool {
         } }
         ensures all { block_count self.new ≡ block_count self.old }
         ensures zero { IsZero result }
+        ensures len { length result ≡ 4096 }
     {
         match self.spare.pop() {
             Some(mut block) => {
