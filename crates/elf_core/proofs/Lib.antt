@@ -1,3 +1,9 @@
+pub mod Scanning
+pub mod ChangeLists
+pub mod Merging
+pub mod Halves
+pub mod Searching
+pub mod Stretching
 pub mod NoteLists
 pub mod Refusals
 pub mod Consistency

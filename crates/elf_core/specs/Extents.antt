@@ -1,7 +1,7 @@
 -- Segments as extents of physical memory, apart from where in the file's bytes they lie.
 use Rattle.std.specs.Prelude.{List, map}
 use Rattle.paging_model.specs.Memory.{Extent}
-use Rattle.elf_core.specs.declared.segments.Segment.{Segment}
+use Rattle.elf_core.specs.declared.segment.Segment.{Segment}
 
 abbrev pub extent : Segment → Extent
 extent segment = record { start = segment.phys; bytes = segment.bytes.now }

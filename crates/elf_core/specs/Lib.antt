@@ -1,5 +1,7 @@
 pub mod Steps
 pub mod Extents
+pub mod Covering
+pub mod Changes
 pub mod Fields
 pub mod FileHeader
 pub mod ProgramHeaders

@@ -8,7 +8,7 @@ ghost use Rattle.elf_core.specs.ProgramHeaders.{program_header_at, program_heade
 
 use crate::faults::CoreFault;
 use crate::fields::{half_at, word_at, xword_at};
-use crate::segments::Segment;
+use crate::segment::Segment;
 
 /// The bytes of the file header.
 const FILE_HEADER_SIZE: usize = 64;

@@ -4,6 +4,7 @@
 //! format stands in `specs/`, field by field.
 #![tactic(auto)]
 
+mod changes;
 mod core_file;
 mod faults;
 mod fields;
@@ -11,14 +12,18 @@ mod headers;
 mod notes;
 mod parsing;
 mod processors;
+mod segment;
 mod segments;
 mod state_notes;
+mod stretches;
 
 pub use core_file::Core;
 pub use faults::{CoreFault, NoteRule};
 pub use parsing::parse;
 pub use processors::Processors;
-pub use segments::{Segment, Segments};
+pub use segment::Segment;
+pub use segments::Segments;
+pub use stretches::Stretch;
 
 #[cfg(test)]
 mod tests;

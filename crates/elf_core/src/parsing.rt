@@ -30,6 +30,7 @@ pub fn parse<'a>(alloc: Global, bytes: &'a [u8]) -> Result<Core<'a>, CoreFault>
     'headers: for index in 0..header_count(bytes) {
         add_header(&mut core, bytes, index)?;
     }
+    core.segments.index(alloc)?;
     Ok(core)
 }
 

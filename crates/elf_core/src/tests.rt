@@ -2,6 +2,7 @@
 
 use super::*;
 use crate::headers::ProgramHeader;
+use crate::stretches::stretch_by_scan;
 use paging_model::registers::{Machine, Processor, RegRule};
 use std::alloc::{AllocError, Global};
 use std::test::Fail;
@@ -444,5 +445,31 @@ fn reads_as_many_headers_as_there_may_be(rt: HostRuntime) -> Result<(), Fail> {
     let file = file_of(rt.alloc(), &headers, &[])?;
     let refusal = parse(rt.alloc(), &file).err();
     assert_eq!(rt; refusal, Some(CoreFault::SegmentRange(65_533)));
+    Ok(())
+}
+
+/// Segments that nest, touch, are equal and leave holes, in no order: too many to look at each.
+#[test]
+fn finds_stretches_as_a_scan_does(rt: HostRuntime) -> Result<(), Fail> {
+    let mut headers = Vec::new(rt.alloc());
+    let mut bytes = Vec::new(rt.alloc());
+    for number in 0..200 {
+        headers.push(ProgramHeader {
+            kind: 1,
+            offset: 64 + 200 * 56 + number,
+            physical: number % 100 * 7919 % 1999,
+            file_size: 1 + number % 100 % 23,
+        })?;
+        bytes.push(number as u8)?;
+    }
+    bytes.extend_from_slice(&[0xff; 23])?;
+    let file = file_of(rt.alloc(), &headers, &bytes)?;
+    let core = parse(rt.alloc(), &file)?;
+    for at in 0..2100 {
+        let found = core.segments.stretch(at);
+        let scanned = stretch_by_scan(core.segments.as_slice(), at);
+        let found = format!(in rt.alloc(); "{found:?}")?;
+        assert_eq!(rt; found, format!(in rt.alloc(); "{scanned:?}")?);
+    }
     Ok(())
 }

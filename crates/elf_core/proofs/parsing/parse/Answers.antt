@@ -17,7 +17,7 @@ pub headers-preserved : goal.headers-preserved
 headers-preserved c = sym (headers_go_on c.args.bytes.now c.headers.index (e_phnum c.args.bytes.now) c.headers.core c.add_header.new.core (omega arith) c.in_ok-add_header.ensures.ok) ∙ c.headers.invariant
 
 pub returns-clause-ok : goal.returns-clause-ok
-returns-clause-ok c = headers_of_core c.args.bytes.now (sym c.in_ok-check_file_header.ensures.value) ∙ sym c.headers.invariant ∙ headers_end c.args.bytes.now c.headers.index (e_phnum c.args.bytes.now) c.headers.core (omega arith)
+returns-clause-ok c = rw c.index.ensures (headers_of_core c.args.bytes.now (sym c.in_ok-check_file_header.ensures.value) ∙ sym c.headers.invariant ∙ headers_end c.args.bytes.now c.headers.index (e_phnum c.args.bytes.now) c.headers.core (omega arith))
 
 pub returns-clause-consistent : goal.returns-clause-consistent
-returns-clause-consistent c = core_is_consistent c.args.bytes.now c.headers.core (returns-clause-ok c)
+returns-clause-consistent c = core_is_consistent c.args.bytes.now _ (returns-clause-ok c)
