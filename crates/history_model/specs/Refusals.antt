@@ -27,6 +27,7 @@ page_limit = 262144
 abbrev pub is_built : Event → Bool
 is_built (event.Machine _) = true
 is_built (event.Cpu _ _) = true
+is_built (event.Write _ _) = true
 is_built (event.Set _ _) = true
 is_built (event.Ask _ _ _) = true
 is_built _ = false

@@ -222,21 +222,22 @@ pub record OfRefusals : Type 0 where
   pub pcid_without_pcids : rule_refusal (begun small_start) (event.Invpcid 0 1 1 0) ≡ Some fault.BadPcid
   pub pcid_of_no_use : rule_refusal (begun small_start) (event.Invpcid 0 2 1 0) ≡ None
   pub not_canonical : rule_refusal (begun small_start) (event.Invpcid 0 0 0 0x800000000000) ≡ Some fault.NotCanonical
-  pub unknown : rule_refusal (begun small_start) (event.Write 0x4014 zeros) ≡ Some (fault.Unknown 0x4018)
+  pub unknown : refusal (begun small_start) (event.Write 0x4014 zeros) ≡ Some (fault.Unknown 0x4018)
   pub not_canonical_of_five : rule_refusal (begun five_level_start)
       (event.Invpcid 0 0 0 0x100000000000000) ≡ Some fault.NotCanonical
   pub canonical_of_five : rule_refusal (begun five_level_start)
       (event.Invpcid 0 0 0 0x800000000000) ≡ None
-  pub unknown_before_crosses : rule_refusal
+  pub unknown_before_crosses : refusal
       (begun (record small_start { extents = record { start = 0x1ffc; bytes = 0 ∷ 0 ∷ 0 ∷ 0 ∷ [] } ∷ [] }))
       (event.Write 0x1ffc zeros) ≡ Some (fault.Unknown 0x2000)
-  pub crosses : rule_refusal (begun (record small_start { extents = record { start = 0x1ffc; bytes = zeros } ∷ [] }))
+  pub crosses : refusal (begun (record small_start { extents = record { start = 0x1ffc; bytes = zeros } ∷ [] }))
       (event.Write 0x1ffc zeros) ≡ Some (fault.Crosses 0x2000)
-  pub write : rule_refusal (begun small_start) (event.Write 0x4008 zeros) ≡ None
+  pub write : refusal (begun small_start) (event.Write 0x4008 zeros) ≡ None
 
--- each event of the processor that goes through three PCIDs is accepted
+-- each event of the processor that goes through three PCIDs is accepted, and each of two writes
 pub record OfAcceptedEvents : Type 0 where
   pub three : LeadsTo (begun small_start) three_pcids
+  pub writes : LeadsTo (begun small_start) two_writes
 
 pub record OfAsking : Type 0 where
   pub granted : answer_to_ask (memory (begun small_start)) small_machine small_regs access.Ur 0x1234 ≡ Ok 0x6234
