@@ -1,2 +1,9 @@
-pub mod FirstCovering
 pub mod Numbers
+pub mod Pages
+pub mod Known
+pub mod Shown
+pub mod BlockBytes
+pub mod WrittenPages
+pub mod WrittenBytes
+pub mod Refusing
+pub mod Writing

@@ -1,10 +1,12 @@
 -- The number in bytes that are all known, and in bytes of which one is unknown.
-use Rattle.std.proofs.Common.{◌≡◌, ℕ, zero, suc, ◌+◌, ◌<◌, List, length, set, Option, Some, None, option_and_then, refl, arith}
-use Rattle.std.proofs.lemmas.List.{get_or-set_other}
+use Rattle.std.proofs.Common.{◌≡◌, ℕ, zero, suc, ◌+◌, ◌-◌, ◌*◌, ◌<◌, List, length, take, drop, set, Option, Some, None, option_and_then, refl, sym, ◌∙◌, ap, arith}
+use Rattle.std.proofs.Math.Seq.{take-length}
+use Rattle.std.proofs.lemmas.List.{get_or-drop, get_or-set_other, length-drop}
 use Rattle.std.proofs.lemmas.Grind.{get_or-set_at}
 use Rattle.std.specs.Prelude.{slice_index}
 use Rattle.byteorder.specs.Endian.{little_from, little_number}
 use Rattle.paging_model.specs.Memory.{Memory, number_at, entry_at}
+use Rattle.phys_view.specs.Ranges.{StandAt}
 
 number_at-from : (memory : Memory) (bytes : List ℕ) (n a i : ℕ) → ((k p q : ℕ) → k < n → p ≡ a + k → q ≡ i + k → memory p ≡ Some (slice_index bytes q)) → number_at memory n a ≡ Some (little_from i n bytes)
 number_at-from memory bytes zero a i known = refl
@@ -41,3 +43,13 @@ entry_at-unknown memory a k h unknown =
 -- bytes that are set one after the other
 pub known-set : (memory : Memory) (bytes : List ℕ) (a i v : ℕ) → i < length bytes → ((k : ℕ) → k < i → memory (a + k) ≡ Some (slice_index bytes k)) → memory (a + i) ≡ Some v → (k : ℕ) → k < i + 1 → memory (a + k) ≡ Some (slice_index (set bytes i v) k)
 known-set memory bytes a i v within known here k h = grind (arith, get_or-set_at, get_or-set_other)
+
+-- the number at a place among others, whose bytes are cut from theirs
+pub entry_among : (memory : Memory) (a n k : ℕ) (bytes : List ℕ) → StandAt memory a (8 * n) bytes → k < n
+    → entry_at memory (a + 8 * k) ≡ Some (little_number 8 (take (length bytes - 8 * k) (drop (8 * k) bytes)))
+entry_among memory a n k bytes stand within =
+    let all : take (length bytes - 8 * k) (drop (8 * k) bytes) ≡ drop (8 * k) bytes =
+    rw (sym (length-drop (8 * k) bytes)) (take-length (drop (8 * k) bytes)) in
+    entry_at-known memory (a + 8 * k) (take (length bytes - 8 * k) (drop (8 * k) bytes)) (λ j h.
+    let place : a + 8 * k + j ≡ a + (8 * k + j) = omega arith in
+    rw (place, all) (stand.each (8 * k + j) (omega arith) ∙ ap Some (sym (get_or-drop (8 * k) bytes j 0))))

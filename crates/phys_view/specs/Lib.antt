@@ -1,2 +1,3 @@
-pub mod Ranges
 pub mod Seen
+pub mod Ranges
+pub mod Writes

@@ -37,6 +37,7 @@ fn segments<'a>(alloc: Global, bytes: &'a [u8]) -> Result<Segments<'a>, AllocErr
 
 /// A walk over segments.
 struct WalkRead<'a> {
+    alloc: Global,
     segments: Segments<'a>,
     settings: &'a Settings,
     root: u64,
@@ -52,12 +53,13 @@ impl<'a> Reader for WalkRead<'a> {
 
     fn read<L: Ledger>(self, steps: &mut Steps<L>) -> Walk {
         let WalkRead {
+            alloc,
             segments,
             settings,
             root,
             address,
         } = self;
-        let view: View<'_, L> = View::new(segments);
+        let view: View<'_, L> = View::new(alloc, segments);
         walk(&view, settings, root, address, steps)
     }
 }
@@ -75,6 +77,7 @@ fn walk_and_steps(
     assert!(rt; root % 4096 == 0 && root < 1 << 52);
     let segments = segments(alloc, bytes)?;
     Ok(answer_and_steps(WalkRead {
+        alloc,
         segments,
         settings,
         root,
