@@ -3,7 +3,7 @@ use Rattle.std.specs.Prelude.{◌≡◌, ℕ, Bool, false, List, []}
 use Rattle.paging_model.specs.declared.registers.Machine.{Machine}
 use Rattle.paging_model.specs.declared.registers.Processor.{Processor}
 use Rattle.elf_core.specs.declared.core_file.Core.{Core}
-use Rattle.phys_view.specs.Seen.{Seen, memory_of}
+use Rattle.phys_view.specs.Seen.{Seen, memory_of, written_pages}
 use Rattle.elf_core.specs.Cores.{IsConsistent}
 use Rattle.history_model.specs.History.{Start, History, begun, start_of as beginning, memory, machine, pages, insert_processors, processors, time}
 use Rattle.history_model.specs.Refusals.{LeadsTo}
@@ -27,13 +27,12 @@ pub record Holding : Type 0 where
   pub machine : Machine
   pub processors : List Processor
 
--- a session that isn't poisoned has all that a moment has; its memory is that of the core's segments, and no page of it
--- was written to
+-- a session that isn't poisoned has all that a moment has: its memory too, and the pages that were written to
 pub record HasAllOf (holding : Holding) (moment : History) : Type 0 where
   pub unpoisoned : holding.poisoned ≡ false
   pub time_is : time moment ≡ holding.happened
   pub segments_are : (beginning moment).extents ≡ holding.seen.extents
-  pub unwritten : pages moment ≡ []
+  pub pages_are : pages moment ≡ written_pages holding.seen
   pub memory_is : memory moment ≡ memory_of holding.seen
   pub stated_is : (beginning moment).stated ≡ holding.stated
   pub machine_is : machine moment ≡ holding.machine

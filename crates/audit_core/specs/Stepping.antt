@@ -1,8 +1,9 @@
 -- What comes of an event: the session accepts it, refuses it, or runs out of memory. `Stands` is the relation between a
 -- session and the moments that it stands for.
-use Rattle.std.specs.Prelude.{◌≡◌, ◌⊎◌, Bool, true, false, IsTrue, Some, None}
+use Rattle.std.specs.Prelude.{◌≡◌, ◌⊎◌, ℕ, Bool, true, false, IsTrue, Some, None}
 use Rattle.history_model.specs.Answering.{Answers}
 use Rattle.history_model.specs.History.{History, after_event}
+use Rattle.history_model.specs.Horizons.{slots_of}
 use Rattle.history_model.specs.Refusals.{refusal}
 use Rattle.history_model.specs.declared.answers.Answer.{Answer}
 use Rattle.history_model.specs.declared.events.Event.{Event}
@@ -10,10 +11,21 @@ use Rattle.history_model.specs.declared.events.Event.TheVariants as event
 use Rattle.history_model.specs.declared.faults.StepFault.{StepFault}
 use Rattle.audit_core.specs.Standing.{Holding}
 
--- memory may run out at the event: the list of processors grows with it
+-- memory may run out at the event: the list of processors grows with it, or a page that is written to needs a block
 abbrev pub may_run_out : Event → Bool
 may_run_out (event.Cpu _ _) = true
+may_run_out (event.Write _ _) = true
 may_run_out _ = false
+
+-- how many steps an accepted event may take: a write one for each of its slots
+abbrev pub step_limit : Event → ℕ
+step_limit (event.Write at bytes) = slots_of (event.Write at bytes)
+step_limit _ = 5
+
+-- how many a refused one may take: a write one for each slot of a page, and one more
+abbrev pub refused_step_limit : Event → ℕ
+refused_step_limit (event.Write _ _) = 513
+refused_step_limit _ = 0
 
 -- the event is accepted: in a moment that the session stands for it isn't refused, the answer is the one that is defined
 -- there, and the session then stands for the moment after it

@@ -4,18 +4,21 @@ ghost use Rattle.std.specs.Prelude.{◌≡◌, ◌≢◌, ◌<◌, ◌≤◌, �
 ghost use Rattle.elf_core.specs.Cores.{IsConsistent};
 ghost use Rattle.history_model.specs.History.{History, begun, regs_in};
 ghost use Rattle.history_model.specs.Refusals.{cpu_refusal};
+ghost use Rattle.phys_view.specs.Seen.{written_pages};
 ghost use Rattle.audit_core.specs.Standing.{HasAllOf, StandsFor, core_start};
-ghost use Rattle.audit_core.specs.Stepping.{AcceptsEvent, RefusesEvent, RunsOutOfMemory};
+ghost use Rattle.audit_core.specs.Stepping.{AcceptsEvent, RefusesEvent, RunsOutOfMemory, step_limit, refused_step_limit};
 
 use crate::asking;
 use crate::processors::KnownProcessors;
+use block_pool::Pool;
 use elf_core::Core;
 use history_model::answers::Answer;
 use history_model::events::Event;
 use history_model::faults::StepFault;
 use paging_model::access::Access;
+use paging_model::byte_strings::Payload;
 use paging_model::registers::{Machine, PROCESSOR_LIMIT, Processor, RegChange, Regs};
-use phys_view::{Ledger, Steps, View};
+use phys_view::{Ledger, Steps, View, WriteFault};
 use proc_regs::check;
 use std::alloc::{AllocError, Global};
 use std::marker::Model;
@@ -26,6 +29,8 @@ use std::marker::Model;
 #[derive(Drop)]
 pub struct Session<'a, L: Ledger> {
     view: View<'a, L>,
+    /// The blocks of the pages that were written to.
+    pool: Pool,
     machine: Machine,
     stated: bool,
     processors: KnownProcessors,
@@ -34,6 +39,7 @@ pub struct Session<'a, L: Ledger> {
 }
 
 impl<'a, L: Ledger> Model for Session<'a, L> {
+    ghost use Rattle.std.specs.Prelude.{◌≡◌, length};
     ghost use Rattle.audit_core.specs.Standing.{Holding};
 
     ghost Value = { Holding };
@@ -46,6 +52,9 @@ impl<'a, L: Ledger> Model for Session<'a, L> {
       machine = s.machine;
       processors = s.processors;
     } };
+
+    // Each written page has one block of the pool.
+    ghost invariant = { λ s. s.pool.live ≡ length s.view.written };
 }
 
 impl<'a, L: Ledger> Session<'a, L> {
@@ -60,7 +69,8 @@ impl<'a, L: Ledger> Session<'a, L> {
     {
         let processors = KnownProcessors::from_slice(alloc, core.processors.as_slice())?;
         Ok(Session {
-            view: View::new(core.segments),
+            view: View::new(alloc, core.segments),
+            pool: Pool::new(alloc),
             machine: core.machine,
             stated: core.stated,
             processors,
@@ -83,6 +93,13 @@ impl<'a, L: Ledger> Session<'a, L> {
         self.processors.len() as u64
     }
 
+    /// How many blocks of memory it holds: one for each page that was written to.
+    pub fn live_blocks(&self) -> u64
+        ensures { result ≡ length (written_pages self.now.seen) }
+    {
+        self.pool.live()
+    }
+
     /// Handles an event: answers it, or refuses it and stays as it was. The caller hands over at most 4,294,967,295
     /// events, state lines not counted.
     ///
@@ -99,8 +116,9 @@ impl<'a, L: Ledger> Session<'a, L> {
             → RunsOutOfMemory StandsFor self.old self.new event.now }
         ensures stays_poisoned { IsTrue self.old.poisoned → result ≡ Err StepFault.Memory }
         ensures time { self.new.happened ≤ self.old.happened + 1 }
-        ensures cost { steps.new ≤ steps.old + 5 }
-        ensures refused_cost { OnErr result (steps.new ≡ steps.old) }
+        ensures cost { OnOk result (steps.new ≤ steps.old + step_limit event.now) }
+        ensures refused_cost { OnErr result
+            (steps.new ≤ steps.old + refused_step_limit event.now) }
     {
         self.handle(event, steps)
     }
@@ -116,21 +134,23 @@ impl<'a, L: Ledger> Session<'a, L> {
             → RunsOutOfMemory HasAllOf self.old self.new event.now }
         ensures stays_poisoned { IsTrue self.old.poisoned → result ≡ Err StepFault.Memory }
         ensures time { self.new.happened ≤ self.old.happened + 1 }
-        ensures cost { steps.new ≤ steps.old + 5 }
-        ensures refused_cost { OnErr result (steps.new ≡ steps.old) }
+        ensures cost { OnOk result (steps.new ≤ steps.old + step_limit event.now) }
+        ensures refused_cost { OnErr result
+            (steps.new ≤ steps.old + refused_step_limit event.now) }
     {
         if self.poisoned {
             return Err(StepFault::Memory);
         }
-        match *event {
-            Event::Machine(machine) => self.state_machine(machine),
-            Event::Cpu(number, regs) => self.state_processor(number, regs),
-            Event::Set { cpu, change } => self.set_register(cpu, change),
+        match event {
+            Event::Machine(machine) => self.state_machine(*machine),
+            Event::Cpu(number, regs) => self.state_processor(*number, *regs),
+            Event::Write { at, bytes } => self.write(*at, bytes),
+            Event::Set { cpu, change } => self.set_register(*cpu, *change),
             Event::Ask {
                 cpu,
                 access,
                 pointer,
-            } => self.ask(cpu, access, pointer, steps),
+            } => self.ask(*cpu, *access, *pointer, steps),
             _ => Err(StepFault::NotBuilt),
         }
     }
@@ -193,6 +213,30 @@ impl<'a, L: Ledger> Session<'a, L> {
             return Err(StepFault::TooManyProcessors);
         }
         check(&self.machine, regs).map_err(StepFault::Illegal)
+    }
+
+    /// Writes bytes to memory.
+    fn write(&mut self, at: u64, bytes: &Payload) -> Result<Answer, StepFault>
+        requires { self.old.happened + 1 < 2 ^ 32 }
+        ensures accepted { IfOk result
+            (AcceptsEvent HasAllOf self.old self.new (Event.Write at bytes.now)) }
+        ensures refused { IfErr result (λ fault. fault ≢ StepFault.Memory
+            → RefusesEvent HasAllOf self.old self.new (Event.Write at bytes.now) fault) }
+        ensures out_of_memory { result ≡ Err StepFault.Memory
+            → RunsOutOfMemory HasAllOf self.old self.new (Event.Write at bytes.now) }
+        ensures time { self.new.happened ≤ self.old.happened + 1 }
+    {
+        match self.view.write(&mut self.pool, at, bytes.as_slice()) {
+            Ok(()) => {
+                self.happened += 1;
+                Ok(Answer::Nothing)
+            }
+            Err(WriteFault::Memory) => {
+                self.poisoned = true;
+                Err(StepFault::Memory)
+            }
+            Err(fault) => Err(StepFault::from(fault)),
+        }
     }
 
     /// Changes a register of a processor.

@@ -1,6 +1,7 @@
-//! Events one after another, over a core whose tables map the first GByte to the second: a supervisor page with R/W.
+//! Events one after another, over a core of two tables that map the first GByte to the second: a supervisor page with
+//! R/W. Of the upper table one entry is known, and of the lower one two.
 
-ghost use Rattle.std.specs.Prelude.{⊤};
+ghost use Rattle.std.specs.Prelude.{◌≤◌, length, ⊤};
 
 use super::*;
 use elf_core::{Core, Processors, Segment, Segments};
@@ -8,8 +9,9 @@ use history_model::answers::{Answer, Why};
 use history_model::events::Event;
 use history_model::faults::StepFault;
 use paging_model::access::{Access, Rule};
+use paging_model::byte_strings::Payload;
 use paging_model::registers::{Machine, RegChange, RegRule, Regs};
-use phys_view::{Ledger, Reader, Steps, answer_of};
+use phys_view::{Ledger, Reader, Steps, answer_and_steps};
 use std::alloc::{AllocError, Global};
 use std::test::Fail;
 use test_support::registers::REGS;
@@ -17,8 +19,8 @@ use test_support::registers::REGS;
 /// The first entry of the table at 0x1000, which references the table at 0x2000.
 const TOP: [u8; 8] = [0x03, 0x20, 0, 0, 0, 0, 0, 0];
 
-/// The first entry of the table at 0x2000, which maps a page of 1 GByte.
-const LARGE: [u8; 8] = [0x83, 0, 0, 0x40, 0, 0, 0, 0];
+/// The first entries of the table at 0x2000: a page of 1 GByte, and none.
+const LARGE: [u8; 16] = [0x83, 0, 0, 0x40, 0, 0, 0, 0, 0, 0, 0, 0, 0, 0, 0, 0];
 
 /// CR4 without PAE.
 const NO_PAE: RegChange = RegChange::Cr4(0);
@@ -40,6 +42,15 @@ const fn cpu(number: u32) -> Event {
 /// A change of a register.
 const fn set(cpu: u32, change: RegChange) -> Event {
     Event::Set { cpu, change }
+}
+
+/// A write to memory.
+fn write(alloc: Global, at: u64, bytes: &[u8]) -> Result<Event, AllocError>
+    requires some { 1 ≤ length bytes.now }
+    requires few { length bytes.now ≤ 4096 }
+{
+    let bytes = Payload::from_vec(bytes.to_vec(alloc)?);
+    Ok(Event::Write { at, bytes })
 }
 
 /// An access by a pointer.
@@ -70,10 +81,11 @@ fn said_of(step: Result<Answer, StepFault>) -> Said {
     }
 }
 
-/// What came of events, and then the session's time and number of processors.
+/// What came of events, and how many blocks the session held after each; then its time and number of processors.
 #[derive(Debug, Drop)]
 struct Summary {
     said: Vec<Said>,
+    blocks: Vec<u64>,
     now: u32,
     processors: u64,
 }
@@ -82,7 +94,7 @@ struct Summary {
 fn start<'a, L: Ledger>(
     alloc: Global,
     top: &'a [u8; 8],
-    large: &'a [u8; 8],
+    large: &'a [u8; 16],
 ) -> Result<Session<'a, L>, AllocError> {
     let items = vec![in alloc;
         Segment {
@@ -118,28 +130,32 @@ impl<'a> Reader for Steppings<'a> {
         let Steppings { alloc, events } = self;
         let mut session = start(alloc, &TOP, &LARGE)?;
         let mut said = Vec::new(alloc);
+        let mut blocks = Vec::new(alloc);
         for event in events {
             if session.now() < u32::MAX {
                 said.push(said_of(session.step(event, steps)))?;
+                blocks.push(session.live_blocks())?;
             }
         }
         let (now, processors) = (session.now(), session.processors());
         Ok(Summary {
             said,
+            blocks,
             now,
             processors,
         })
     }
 }
 
-/// What comes of events, one after the other.
-fn summary_of(alloc: Global, events: &[Event]) -> Result<Summary, AllocError> {
-    answer_of(Steppings { alloc, events })
+/// What comes of events, one after the other, and the steps that they took.
+fn summary_of(alloc: Global, events: &[Event]) -> Result<(Summary, u64), AllocError> {
+    let (summary, steps) = answer_and_steps(Steppings { alloc, events });
+    Ok((summary?, steps))
 }
 
 #[test]
 fn accepted_events_are_answered(rt: HostRuntime) -> Result<(), Fail> {
-    let summary = summary_of(
+    let (summary, steps) = summary_of(
         rt.alloc(),
         &[
             MACHINE,
@@ -170,14 +186,14 @@ fn accepted_events_are_answered(rt: HostRuntime) -> Result<(), Fail> {
         ]
         .as_slice()
     );
-    // State lines don't count.
-    assert_eq!(rt; (summary.now, summary.processors), (7, 2));
+    // State lines don't count. An ask that its pointer denies takes no step, and one walk ends at its first entry.
+    assert_eq!(rt; (summary.now, summary.processors, steps), (7, 2, 7));
     Ok(())
 }
 
 #[test]
 fn refused_events_change_nothing(rt: HostRuntime) -> Result<(), Fail> {
-    let summary = summary_of(
+    let (summary, steps) = summary_of(
         rt.alloc(),
         &[
             LIST,
@@ -214,7 +230,54 @@ fn refused_events_change_nothing(rt: HostRuntime) -> Result<(), Fail> {
         ]
         .as_slice()
     );
-    assert_eq!(rt; (summary.now, summary.processors), (2, 1));
+    assert_eq!(rt; (summary.now, summary.processors, steps), (2, 1, 4));
+    Ok(())
+}
+
+/// An entry is written, then a byte of each of two others. Of the first refused write all bytes but the last are known.
+#[test]
+fn writes_are_seen_by_later_asks(rt: HostRuntime) -> Result<(), Fail> {
+    let alloc = rt.alloc();
+    let (summary, steps) = summary_of(
+        alloc,
+        &[
+            cpu(0),
+            cpu(1),
+            ask(0, Access::Sr, 0x4000_1234),
+            write(alloc, 0x2008, &[0x83, 0, 0, 0x80])?,
+            ask(0, Access::Sr, 0x4000_1234),
+            ask(1, Access::Sr, 0x4000_1234),
+            write(alloc, 0x2000, &[0x87])?,
+            write(alloc, 0x1000, &[0x07])?,
+            ask(1, Access::Ur, 0x1234),
+            write(alloc, 0x2000, &[0; 17])?,
+            write(alloc, 0x3000, &[0])?,
+            ask(0, Access::Ur, 0x1234),
+        ],
+    )?;
+    assert_eq!(rt;
+        summary.said.as_slice(),
+        [
+            Said::Nothing,
+            Said::Nothing,
+            Said::Asked(Err(Why::Absent(3))),
+            Said::Nothing,
+            Said::Asked(Ok(0x8000_1234)),
+            Said::Asked(Ok(0x8000_1234)),
+            Said::Nothing,
+            Said::Nothing,
+            Said::Asked(Ok(0x4000_1234)),
+            Said::Refused(StepFault::Unknown(0x2010)),
+            Said::Refused(StepFault::Unknown(0x3000)),
+            Said::Asked(Ok(0x4000_1234)),
+        ]
+        .as_slice()
+    );
+    assert_eq!(rt;
+        summary.blocks.as_slice(),
+        [0, 0, 0, 1, 1, 1, 1, 2, 2, 2, 2, 2].as_slice()
+    );
+    assert_eq!(rt; (summary.now, summary.processors, steps), (8, 2, 10));
     Ok(())
 }
 
@@ -224,11 +287,11 @@ fn there_are_64_processors_at_most(rt: HostRuntime) -> Result<(), Fail> {
     for number in (0..65).rev() {
         events.push(cpu(number))?;
     }
-    let summary = summary_of(rt.alloc(), events.as_slice())?;
+    let (summary, steps) = summary_of(rt.alloc(), events.as_slice())?;
     assert_eq!(rt;
         summary.said.last(),
         Some(&Said::Refused(StepFault::TooManyProcessors))
     );
-    assert_eq!(rt; (summary.now, summary.processors), (0, 64));
+    assert_eq!(rt; (summary.now, summary.processors, steps), (0, 64, 0));
     Ok(())
 }

@@ -79,13 +79,19 @@ fn a_line_of_more_than_8300_bytes_is_refused(rt: HostRuntime) -> Result<(), Fail
 #[test]
 fn a_write_of_4096_bytes_is_read(rt: HostRuntime) -> Result<(), Fail> {
     let core = example_core(rt.alloc())?;
-    let digits = vec![in rt.alloc(); b'5'; 8_192]?;
-    let mut log = b"write 0x0 ".to_vec(rt.alloc())?;
+    let mut digits = Vec::new(rt.alloc());
+    for _ in 0..512u32 {
+        digits.extend_from_slice(b"0760000000000000")?;
+    }
+    // Each entry of the page table, then all of memory's last page but its first byte, and one byte more.
+    let mut log = b"write 0x4000 ".to_vec(rt.alloc())?;
+    log.extend_from_slice(&digits)?;
+    log.extend_from_slice(b"\nask 0 uw 0x0\nask 0 uw 0x1ff234\nwrite 0xf001 ")?;
     log.extend_from_slice(&digits)?;
     let (written, code) = outcome(rt.alloc(), &core, &log)?;
     assert_eq!(rt;
         written.as_slice(),
-        b"line 1 refused: not built\n".as_slice()
+        b"granted 0x6000\ngranted 0x6234\nline 4 refused: unknown 0x10000\n".as_slice()
     );
     assert_eq!(rt; code, 4);
     Ok(())
@@ -204,6 +210,45 @@ fn the_walk_reads_the_tables_of_the_core(rt: HostRuntime) -> Result<(), Fail> {
     ];
     for (fields, log, text, status) in cases {
         let core = example_core_with(rt.alloc(), fields)?;
+        let (written, code) = outcome(rt.alloc(), &core, log)?;
+        assert_eq!(rt; written.as_slice(), text);
+        assert_eq!(rt; code, status);
+    }
+    Ok(())
+}
+
+#[test]
+fn writes_change_what_is_granted(rt: HostRuntime) -> Result<(), Fail> {
+    let core = example_core(rt.alloc())?;
+    let cases: [(&[u8], &[u8], u8); 4] = [
+        // An entry of level 2: a large page with a reserved bit, one that isn't present, one at a multiple of its size.
+        (
+            b"write 0x3000 e720400000000000\nask 0 ur 0x1234\nwrite 0x3000 e620400000000000\n\
+              ask 0 ur 0x1234\nwrite 0x3000 e710400000000000\nask 0 ur 0x1234\n",
+            b"denied reserved 2\ndenied absent 2\ngranted 0x401234\n",
+            0,
+        ),
+        // An entry of level 1: without U/S, then with XD, whose bit is reserved without NXE.
+        (
+            b"write 0x4000 0350000000000000\nask 0 ur 0x0\nask 0 sw 0x0\n\
+              write 0x4000 0750000000000080\nask 0 ux 0x0\nask 0 uw 0x0\nset 0 efer 0x500\n\
+              ask 0 ur 0x0\n",
+            b"denied user\ngranted 0x5000\ndenied xd\ngranted 0x5000\ndenied reserved 1\n",
+            0,
+        ),
+        (
+            b"write 0x1ffc 0102030405060708\n",
+            b"line 1 refused: crosses 0x2000\n",
+            4,
+        ),
+        // That a byte isn't known comes before the second page.
+        (
+            b"write 0xfffc 0011223344556677\n",
+            b"line 1 refused: unknown 0x10000\n",
+            4,
+        ),
+    ];
+    for (log, text, status) in cases {
         let (written, code) = outcome(rt.alloc(), &core, log)?;
         assert_eq!(rt; written.as_slice(), text);
         assert_eq!(rt; code, status);
