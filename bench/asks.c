@@ -1,204 +1,16 @@
 /* Answers the `ask` lines of a log about a core: asks CORE LOG
 
-   Knows `machine`, `cpu` and `ask` lines and comments, and stops at every other line. Writes its lines in pieces of
-   65,536 bytes and more, as the program does. */
-#include "core_and_log.h"
+   Knows `machine`, `cpu` and `ask` lines and comments, and stops at every other line. */
+#include "answers.h"
 
-/* What an access is, beside a read by a supervisor. KIND says that the letters are those of a kind. */
-enum access { KIND = 1, USER = 2, IMPLICIT = 4, WRITE = 8, FETCH = 16 };
-
-static const unsigned char WHO[256] = {['u'] = KIND | USER, ['s'] = KIND, ['i'] = KIND | IMPLICIT};
-static const unsigned char HOW[256] = {['r'] = KIND, ['w'] = KIND | WRITE, ['x'] = KIND | FETCH};
-
-enum reason {
-    GRANTED,
-    NOT_CANONICAL,
-    LASS,
-    UNKNOWN,
-    ABSENT,
-    RESERVED,
-    NOT_USER,
-    SMEP,
-    SMAP,
-    NOT_WRITE,
-    XD,
-    KEY,
+/* Memory as the core has it. */
+struct view {
+    struct memory memory;
 };
 
-/* `number` is the physical address of what is granted, and the level of what is unknown, absent or reserved. */
-struct answer {
-    enum reason reason;
-    uint64_t number;
-};
-
-/* ---- Rules ---- */
-
-static bool lass_refuses(const struct processor *processor, unsigned access, uint64_t address)
+static inline bool seen_entry(const struct view *view, uint64_t address, uint64_t *entry)
 {
-    bool high = bit(address, 63);
-    if (access & USER)
-        return high;
-    if (high)
-        return false;
-    if (access & FETCH)
-        return true;
-    return processor->smap && (access & IMPLICIT || !processor->ac);
-}
-
-/* The address of a pointer, where it has one. */
-static enum reason pointed(const struct processor *processor, unsigned access, uint64_t pointer, uint64_t *address)
-{
-    *address = pointer;
-    if (!(access & (IMPLICIT | FETCH))) {
-        *address = sign_extended(pointer, bit(pointer, 63) ? processor->high_mask : processor->low_mask);
-        if (bit(*address ^ pointer, 63))
-            return NOT_CANONICAL;
-    }
-    if (sign_extended(*address, processor->canonical_width) != *address)
-        return NOT_CANONICAL;
-    return processor->lass && lass_refuses(processor, access, *address) ? LASS : GRANTED;
-}
-
-/* The page that an address is in. */
-struct page {
-    bool write, user, xd;
-    unsigned key;
-};
-
-static enum reason refusal(const struct processor *processor, unsigned access, struct page page)
-{
-    bool writes = access & WRITE && (access & USER || processor->wp);
-    if (access & USER && !page.user)
-        return NOT_USER;
-    if (page.user && !(access & USER)) {
-        if (access & FETCH) {
-            if (processor->smep)
-                return SMEP;
-        } else if (processor->smap && (access & IMPLICIT || !processor->ac))
-            return SMAP;
-    }
-    if (writes && !page.write)
-        return NOT_WRITE;
-    if (access & FETCH)
-        return page.xd ? XD : GRANTED;
-    uint64_t disable = (page.user ? processor->user_keys : processor->supervisor_keys) >> 2 * page.key;
-    return bit(disable, 0) || (bit(disable, 1) && writes) ? KEY : GRANTED;
-}
-
-static struct answer answer(const struct memory *memory, const struct processor *processor, unsigned access,
-                            uint64_t pointer)
-{
-    uint64_t address;
-    enum reason reason = pointed(processor, access, pointer, &address);
-    if (reason != GRANTED)
-        return (struct answer){reason, 0};
-    uint64_t table = processor->root, all = ~0ull, some = 0;
-    for (int level = processor->levels;; level--) {
-        uint64_t entry;
-        if (!known_entry(memory, place_of_entry(table, level, address), &entry))
-            return (struct answer){UNKNOWN, (uint64_t)level};
-        if (!bit(entry, 0))
-            return (struct answer){ABSENT, (uint64_t)level};
-        if (has_reserved_bit(processor, entry, level))
-            return (struct answer){RESERVED, (uint64_t)level};
-        all &= entry;
-        some |= entry;
-        if (maps_page(entry, level)) {
-            struct page page = {bit(all, 1), bit(all, 2), bit(some, 63), entry >> 59 & 15};
-            uint64_t low = bits(0, low_bits(level));
-            return (struct answer){refusal(processor, access, page), (entry & bits(0, 52) & ~low) | (address & low)};
-        }
-        table = entry & bits(12, 52);
-    }
-}
-
-/* ---- Output ---- */
-
-enum { ENOUGH = 65536, TEXT_ROOM = 24, LINE_ROOM = 64 };
-
-/* Lines that wait to be written. */
-struct output {
-    char bytes[ENOUGH + LINE_ROOM];
-    size_t size;
-};
-
-static const struct {
-    char bytes[TEXT_ROOM];
-    unsigned char size;
-} TEXTS[] = {
-#define TEXT(text) {text, sizeof text - 1}
-    [GRANTED] = TEXT("granted 0x"),
-    [NOT_CANONICAL] = TEXT("denied not-canonical"),
-    [LASS] = TEXT("denied lass"),
-    [UNKNOWN] = TEXT("denied unknown "),
-    [ABSENT] = TEXT("denied absent "),
-    [RESERVED] = TEXT("denied reserved "),
-    [NOT_USER] = TEXT("denied user"),
-    [SMEP] = TEXT("denied smep"),
-    [SMAP] = TEXT("denied smap"),
-    [NOT_WRITE] = TEXT("denied write"),
-    [XD] = TEXT("denied xd"),
-    [KEY] = TEXT("denied key"),
-#undef TEXT
-};
-
-static void write_out(struct output *output)
-{
-    size_t done = 0;
-    while (done < output->size) {
-        ssize_t count = write(STDOUT_FILENO, output->bytes + done, output->size - done);
-        if (count <= 0)
-            stop(NOT_WRITTEN, "asks: not written");
-        done += (size_t)count;
-    }
-    output->size = 0;
-}
-
-static char *put_hexadecimal(char *at, uint64_t number)
-{
-    int digits = (67 - __builtin_clzll(number | 1)) / 4;
-    for (int index = digits - 1; index >= 0; index--, number >>= 4)
-        at[index] = "0123456789abcdef"[number & 15];
-    return at + digits;
-}
-
-static void put_answer(struct output *output, struct answer answer)
-{
-    char *start = output->bytes + output->size, *at = start;
-    memcpy(at, TEXTS[answer.reason].bytes, TEXT_ROOM);
-    at += TEXTS[answer.reason].size;
-    if (answer.reason == GRANTED)
-        at = put_hexadecimal(at, answer.number);
-    else if (answer.reason >= UNKNOWN && answer.reason <= RESERVED)
-        *at++ = (char)('0' + answer.number);
-    *at++ = '\n';
-    output->size += (size_t)(at - start);
-    if (output->size >= ENOUGH)
-        write_out(output);
-}
-
-/* ---- Lines ---- */
-
-struct question {
-    const struct processor *processor;
-    unsigned access;
-    uint64_t pointer;
-};
-
-/* An `ask` line behind its first word. */
-static bool take_ask(const unsigned char **at, const struct machine *machine, struct question *question)
-{
-    uint64_t number;
-    if (!take_number(at, &number) || !take_byte(at, ' '))
-        return false;
-    unsigned who = WHO[*(*at)++], how = HOW[*(*at)++];
-    if (!(who & how & KIND) || (who & IMPLICIT && how & FETCH))
-        return false;
-    if (!take_byte(at, ' ') || !take_number(at, &question->pointer) || !take_byte(at, '\n'))
-        return false;
-    question->access = who | how;
-    question->processor = processor_of(machine, number);
-    return question->processor != NULL;
+    return known_entry(&view->memory, address, entry);
 }
 
 int main(int argc, char **argv)
@@ -206,7 +18,7 @@ int main(int argc, char **argv)
     if (argc != 3)
         stop(BAD_USE, "usage: asks CORE LOG");
     struct file core = read_file(argv[1]), log = read_file(argv[2]);
-    struct memory memory = memory_of(core);
+    struct view view = {memory_of(core)};
     struct machine machine = UNSTATED;
     static struct output output;
     bool asked = false;
@@ -216,7 +28,7 @@ int main(int argc, char **argv)
         if (take_word(&at, "ask ")) {
             if (!take_ask(&at, &machine, &question))
                 stop(BAD_LOG, "asks: a bad ask line");
-            put_answer(&output, answer(&memory, question.processor, question.access, question.pointer));
+            put_answer(&output, answer(&view, question.processor, question.access, question.pointer));
             asked = true;
         } else if (!take_passed_over(&at, end) && (asked || !take_state_line(&at, &machine)))
             stop(BAD_LOG, "asks: a bad line");

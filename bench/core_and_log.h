@@ -1,5 +1,5 @@
-/* What asks.c and make_asks.c read: the memory of a core, the numbers and the state lines of a log, and page-table
-   entries. docs/FORMATS.md says what these are. */
+/* What the programs read that answer logs or make them: the memory of a core, the numbers and the state lines of a log,
+   and page-table entries. docs/FORMATS.md says what these are. */
 #include <fcntl.h>
 #include <stdbool.h>
 #include <stdint.h>

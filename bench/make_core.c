@@ -4,63 +4,23 @@
    program, a heap, libraries, mappings and a stack. Tables lie scattered through memory, and pages anywhere. What is in
    the pages is random, always the same. As in a core of QEMU, there are notes that state nothing, and a segment for the
    256 KBytes of firmware below 4 GBytes. */
-#include <stdbool.h>
-#include <stdint.h>
-#include <stdio.h>
-#include <stdlib.h>
-#include <string.h>
+#include "core_file.h"
 
-#include "random_numbers.h"
-
-enum { TABLE = 4096, FRAMES = 131072, NOTE_BYTES = 360, NOTES = 2, HEADERS = 3, FIRMWARE_BYTES = 256 * 1024 };
+enum { FRAMES = 131072, NOTE_BYTES = 360, NOTES = 2, HEADERS = 3, FIRMWARE_BYTES = 256 * 1024 };
 
 static const uint64_t MEMORY_BYTES = (uint64_t)FRAMES * TABLE;
 static const uint64_t FIRMWARE_START = 0xfffc0000;
 static const uint64_t HUGE = 0x200000;
 
-static const uint64_t PRESENT = 1, WRITABLE = 2, USER = 4, LARGE = 1 << 7, GLOBAL = 1 << 8;
-static const uint64_t USED = 0x60; /* accessed and dirty */
+static const uint64_t LARGE = 1 << 7, GLOBAL = 1 << 8;
 static const uint64_t NO_RUN = 1ull << 63;
 static const uint64_t ABOVE_WIDTH = 1ull << 45; /* reserved, as the machine has 40 bits */
 
 static const uint64_t MASK_USER = 1ull << 61; /* of CR3 */
 
-static unsigned char *memory;
-
 static uint64_t random_frame(void)
 {
     return random_number() % FRAMES * TABLE;
-}
-
-static uint64_t *entry_at(uint64_t address)
-{
-    return (uint64_t *)(memory + address);
-}
-
-/* A table of zeros in a frame that no table has yet, at 2 MBytes or above. */
-static uint64_t new_table(void)
-{
-    static uint64_t count;
-    uint64_t frame;
-    do
-        frame = ++count * 40503 % FRAMES; /* odd, so that no frame comes twice */
-    while (frame < 512);
-    memset(memory + frame * TABLE, 0, TABLE);
-    return frame * TABLE;
-}
-
-/* Where the entry of a level stands for a linear address. Tables that are wanted on the way are made. */
-static uint64_t *entry_for(uint64_t root, uint64_t linear, int level)
-{
-    uint64_t table = root;
-    for (int above = 4;; above--) {
-        uint64_t *entry = entry_at(table + 8 * (linear >> (3 + 9 * above) & 511));
-        if (above == level)
-            return entry;
-        if (*entry == 0)
-            *entry = new_table() | PRESENT | WRITABLE | USED | (linear >> 63 ? 0 : USER);
-        table = *entry & 0xffffffffff000;
-    }
 }
 
 /* Maps pages of 4 KBytes to frames anywhere. Of each `one_in` pages, one is left out: its entry isn't present. */
@@ -159,33 +119,12 @@ static void map_all(uint64_t roots[2])
 
 /* ---- Files ---- */
 
-static void put(unsigned char *bytes, size_t size, uint64_t number)
-{
-    memcpy(bytes, &number, size);
-}
-
-static void put_header(unsigned char *header, uint64_t kind, uint64_t offset, uint64_t start, uint64_t size)
-{
-    put(header, 4, kind);
-    put(header + 8, 8, offset);
-    put(header + 24, 8, start);
-    put(header + 32, 8, size);
-    put(header + 40, 8, size);
-}
-
 /* The file header, the program headers, and the notes: of each processor one, as QEMU writes them, with zeros. */
 static bool write_headers(FILE *file)
 {
-    static unsigned char bytes[64 + 56 * HEADERS + NOTE_BYTES * NOTES];
-    const uint64_t notes = 64 + 56 * HEADERS;
-    memcpy(bytes, "\177ELF\2\1\1", 7);
-    put(bytes + 16, 2, 4);
-    put(bytes + 18, 2, 62);
-    put(bytes + 20, 4, 1);
-    put(bytes + 32, 8, 64);
-    put(bytes + 52, 2, 64);
-    put(bytes + 54, 2, 56);
-    put(bytes + 56, 2, HEADERS);
+    static unsigned char bytes[FILE_HEADER + PROGRAM_HEADER * HEADERS + NOTE_BYTES * NOTES];
+    const uint64_t notes = FILE_HEADER + PROGRAM_HEADER * HEADERS;
+    put_file_header(bytes, HEADERS);
     put_header(bytes + 64, 4, notes, 0, NOTE_BYTES * NOTES);
     put_header(bytes + 120, 1, sizeof bytes, 0, MEMORY_BYTES);
     put_header(bytes + 176, 1, sizeof bytes + MEMORY_BYTES, FIRMWARE_START, FIRMWARE_BYTES);
@@ -224,13 +163,10 @@ int main(int argc, char **argv)
         fprintf(stderr, "usage: make_core CORE HEAD\n");
         return 2;
     }
-    memory = malloc(MEMORY_BYTES);
-    if (memory == NULL) {
+    if (!take_memory(FRAMES)) {
         perror("make_core");
         return 1;
     }
-    for (uint64_t place = 0; place < MEMORY_BYTES; place += 8)
-        *entry_at(place) = random_number();
     uint64_t roots[2];
     map_all(roots);
     if (!write_core(argv[1]) || !write_head(argv[2], roots)) {

@@ -1,9 +1,12 @@
 #!/usr/bin/env python3
-"""Times commands side by side: ratios.py [--to NAME].. [--each COUNT] NAME COMMAND [NAME COMMAND ..]
+"""Times commands side by side:
+
+    ratios.py [--to NAME].. [--each COUNT] [--less LABEL NAME OTHER].. NAME COMMAND [NAME COMMAND ..]
 
 Each command runs five times, in turn with the others. What it prints is dropped, where it doesn't say itself where that
 goes. One line a command tells the median of its five times, as a ratio to the median of the first command, or of those
-that --to names, and in seconds. --each tells besides how many nanoseconds that is for each of COUNT things.
+that --to names, and in seconds. --each tells besides how many nanoseconds that is for each of COUNT things. --less adds
+a line LABEL: the median of NAME less that of OTHER. --to may name such a line too.
 """
 import argparse
 import statistics
@@ -23,9 +26,12 @@ def arguments():
     parser = argparse.ArgumentParser(usage=__doc__)
     parser.add_argument("--to", action="append", default=[])
     parser.add_argument("--each", type=int)
+    parser.add_argument("--less", action="append", default=[], nargs=3)
     parser.add_argument("words", nargs="+")
     given = parser.parse_args()
-    if len(given.words) % 2 != 0 or not set(given.to) <= set(given.words[::2]):
+    names = set(given.words[::2])
+    wanted = {*given.to, *(name for _, *pair in given.less for name in pair)}
+    if len(given.words) % 2 != 0 or not wanted <= names | {label for label, _, _ in given.less}:
         parser.error("a name without a command")
     return given
 
@@ -41,6 +47,8 @@ def medians(commands):
 def main():
     given = arguments()
     middles = medians(list(zip(given.words[::2], given.words[1::2])))
+    for label, name, other in given.less:
+        middles[label] = middles[name] - middles[other]
     bases = given.to or given.words[:1]
     if len(bases) > 1:
         print(f"{'':<24}" + "".join(f" {base:>12}" for base in bases))

@@ -21,8 +21,10 @@ import unittest
 from pathlib import Path
 
 from make_example import (
+    FILE_HEADER_SIZE,
     NOTES_OFFSET,
     NOTES_SIZE,
+    PROGRAM_HEADER_SIZE,
     SEGMENT_OFFSET,
     file_header,
     machine_note,
@@ -38,6 +40,9 @@ BUILT = [CRATE / "out" / "rights", CRATE / "out" / "rights.by-rattle"]
 USAGE = b"usage: run CORE LOG | check CORE | gen SEED COUNT\n"
 MEBIBYTE = 1 << 20
 NOBODY = 65534
+
+# How many pages may be written to.
+PAGE_LIMIT = 262_144
 
 # Bits of an entry: present, writes allowed, user accesses allowed, large page, execute-disable.
 P, W, U, PS, XD = 1, 2, 4, 1 << 7, 1 << 63
@@ -70,6 +75,30 @@ def paged_core(pages, machine=machine_note()):
     struct.pack_into("<Q", memory, 0x3000 + 8 * 511, 0x7F000000 | U | W | P)
     struct.pack_into(f"<{len(pages)}Q", memory, 0x10000, *pages)
     return segment_core(len(memory), machine) + memory
+
+
+def repeated_core(count, size):
+    """A core of so many segments in a row, up to where the bytes begin that each of them has."""
+    head = bytearray(file_header())
+    struct.pack_into("<H", head, 56, count + 1)
+    notes_offset = FILE_HEADER_SIZE + PROGRAM_HEADER_SIZE * (count + 1)
+    head += program_header(4, notes_offset, NOTES_SIZE)
+    for number in range(count):
+        head += program_header(1, notes_offset + NOTES_SIZE, size)
+        struct.pack_into("<Q", head, len(head) - PROGRAM_HEADER_SIZE + 24, number * size)
+    return bytes(head) + machine_note() + processor_note()
+
+
+def written_log(flags):
+    """Writes to each page that may be written to, in no order: an entry with flags, of the table that maps 0x5000.
+
+    The tables of the example core are left as they are but for entries that their walk of 0x0 doesn't read.
+    """
+    lines = []
+    for number in range(PAGE_LIMIT):
+        page = number * 0x2545F % PAGE_LIMIT
+        lines.append(b"write 0x%x %02x20000000000000\n" % (page << 12 | 8, flags[page % len(flags)]))
+    return lines
 
 
 # A machine with 52 physical-address bits, and a core with a page at 0 and at each power of 16 from 0x1000 on, then a
@@ -203,6 +232,17 @@ class Statuses(Program):
         self.write("log", b"# nothing\n\nset 0 ac 1")
         self.ends(["run", "example.core", "log"], 0)
 
+    def test_0_writes(self):
+        self.write_example()
+        core = (self.room / "example.core").read_bytes()
+        # A whole page table, and then one byte of its last entry.
+        write = b"write 0x4000 " + b"0760000000000000" * 511 + b"07A0000000000000\n"
+        asks = b"ask 0 uw 0x0\nask 0 uw 0x1ff234\nask 0 uw 0x200000\n"
+        self.write("log", write + asks + b"write 20472 01\nask 0 uw 0x1ff234\n")
+        text = b"granted 0x6000\ngranted 0xa234\ndenied absent 2\ndenied user\n"
+        self.ends(["run", "example.core", "log"], 0, text)
+        self.assertEqual((self.room / "example.core").read_bytes(), core)
+
     def test_2_words_of_no_form(self):
         self.write_example()
         core, log = "example.core", "example.log"
@@ -237,11 +277,30 @@ class Statuses(Program):
         for log, text in (
             (b"ask 0 ur 0x0\nlist 0\nask 0 ur 0x0\n", b"granted 0x5000\nline 2 refused: not built\n"),
             (b"ask 7 ur 0x0\n", b"line 1 refused: no processor 7\n"),
+            (b"write 0x0 00\nwrite 0x1fff 0000\nask 0 ur 0x0\n", b"line 2 refused: crosses 0x2000\n"),
+            (b"ask 0 ur 0x0\nwrite 0xffff 0000\n", b"granted 0x5000\nline 2 refused: unknown 0x10000\n"),
             (b"ask 0 ur 0x0\nask 0 ur  0x0", b"granted 0x5000\nline 2 refused: syntax\n"),
             (b"#" * 8301, b"line 1 refused: too long\n"),
         ):
             self.write("log", log)
             self.ends(["run", "example.core", "log"], 4, text)
+
+    def test_4_one_page_too_many(self):
+        size = 16 * MEBIBYTE
+        start = repeated_core(65, size)
+        self.write("core", start + page_tables(), len(start) + size)
+        # Every page is a top table then. What is written to it says what is granted.
+        answers = {7: b"granted 0x5000\n", 3: b"denied user\n", 6: b"denied absent 4\n"}
+        flags = list(answers)
+        log, text = written_log(flags), []
+        for page in range(0, PAGE_LIMIT, 61):
+            log += [b"set 0 cr3 0x%x\n" % (page << 12), b"ask 0 ur 0x8000000000\n"]
+            text.append(answers[flags[page % len(flags)]])
+        # A page that was written to may be so again.
+        log += [b"write 0x3ffff008 07\n", b"write 0x40000000 00\n"]
+        text.append(b"line %d refused: overlay full\n" % len(log))
+        self.write("log", b"".join(log))
+        self.ends(["run", "core", "log"], 4, b"".join(text))
 
     def test_5_no_such_file(self):
         self.write_example()
@@ -325,6 +384,12 @@ class Statuses(Program):
         text = b"granted 0x5000\nline 2 refused: too long\n"
         self.ends(["run", "example.core", "log"], 4, text, limit)
         self.ends(["run", "example.core", "example.log"], 0, (CRATE / "stdout").read_bytes(), limit)
+        # Each page that is written to takes memory.
+        size = 16 * MEBIBYTE
+        start = repeated_core(64, size)
+        self.write("core", start + page_tables(), len(start) + size)
+        self.write("log", b"ask 0 ur 0x0\n" + b"".join(written_log([7])) + b"ask 0 ur 0x0\n")
+        self.ends(["run", "core", "log"], 7, b"granted 0x5000\n", limit)
 
     def test_9_arguments_that_are_no_text(self):
         self.write_example()
