@@ -6,3 +6,14 @@ pub mod MappedPages
 pub mod Pigeonholes
 pub mod OneListing
 pub mod WholeLists
+pub mod Membership
+pub mod SlotRanges
+pub mod PartLists
+pub mod Finding
+pub mod PartRanges
+pub mod ReachedTables
+pub mod FoundUses
+pub mod SpaceHalves
+pub mod EntryLaws
+pub mod WholeSpaces
+pub mod ReachedUses

@@ -84,7 +84,7 @@ module _ (memory : Memory) (settings : Settings) (root x : ℕ) (page : Page) wh
   unfolding walk
   ending ends = ending_from (top_level settings) root root_bits at_root ends
 
-ends_at_value : (go : ℕ → Bits → Walk) (settings : Settings) (level x : ℕ) (above : Bits) (value : Option ℕ) (frame : ℕ) (bits : Bits) (key : ℕ) (global : Bool)
+pub ends_at_value : (go : ℕ → Bits → Walk) (settings : Settings) (level x : ℕ) (above : Bits) (value : Option ℕ) (frame : ℕ) (bits : Bits) (key : ℕ) (global : Bool)
     → option_map (λ number. entry_of level settings number) value ≡ Some (entry.Leaf frame bits key global)
     → at_value go settings level x above value ≡ Mapped (page_of level x frame (joined_bits above bits) key global)
 ends_at_value go settings level x above None frame bits key global means = absurd cc

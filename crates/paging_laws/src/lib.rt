@@ -6,6 +6,9 @@
 
 pub mod counts;
 pub mod denials;
+pub mod entries;
+pub mod examples;
 pub mod leaves;
 pub mod listings;
+pub mod spaces;
 pub mod walks;
