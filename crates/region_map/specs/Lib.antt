@@ -1,0 +1,2 @@
+pub mod Coalesced
+pub mod Places

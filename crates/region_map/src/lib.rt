@@ -1,0 +1,11 @@
+//! The map of one linear-address space: ranges of pages, each as long as it can be, in one list.
+#![tactic(auto)]
+
+mod adding;
+mod places;
+mod regions;
+
+pub use regions::Regions;
+
+#[cfg(test)]
+mod tests;
