@@ -1,0 +1,5 @@
+pub mod Spans
+pub mod MappedRanges
+pub mod SlotWalks
+pub mod EntryWalks
+pub mod BuiltSpaces

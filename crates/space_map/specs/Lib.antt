@@ -1,0 +1,4 @@
+pub mod MappedRanges
+pub mod PartialSpaces
+pub mod Walks
+pub mod BuiltSpaces
