@@ -1,0 +1,4 @@
+pub mod Zones
+pub mod Protections
+pub mod KeptGrants
+pub mod AreaLists
