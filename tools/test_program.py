@@ -243,6 +243,12 @@ class Statuses(Program):
         self.ends(["run", "example.core", "log"], 0, text)
         self.assertEqual((self.room / "example.core").read_bytes(), core)
 
+    def test_0_lists(self):
+        self.write_example()
+        self.write("log", b"list 0\nwrite 0x4008 0760000000000000\nlist 0\n")
+        text = b"areas 2\n0x0 0xfff 0x5000 rwxrwxrw\n0x1000 0x1fff 0x6000 r-xr-xr-\n"
+        self.ends(["run", "example.core", "log"], 0, text + b"areas 1\n0x0 0x1fff 0x5000 rwxrwxrw\n")
+
     def test_2_words_of_no_form(self):
         self.write_example()
         core, log = "example.core", "example.log"
@@ -275,7 +281,7 @@ class Statuses(Program):
     def test_4_a_refused_line(self):
         self.write_example()
         for log, text in (
-            (b"ask 0 ur 0x0\nlist 0\nask 0 ur 0x0\n", b"granted 0x5000\nline 2 refused: not built\n"),
+            (b"ask 0 ur 0x0\npoint current\nask 0 ur 0x0\n", b"granted 0x5000\nline 2 refused: not built\n"),
             (b"ask 7 ur 0x0\n", b"line 1 refused: no processor 7\n"),
             (b"write 0x0 00\nwrite 0x1fff 0000\nask 0 ur 0x0\n", b"line 2 refused: crosses 0x2000\n"),
             (b"ask 0 ur 0x0\nwrite 0xffff 0000\n", b"granted 0x5000\nline 2 refused: unknown 0x10000\n"),

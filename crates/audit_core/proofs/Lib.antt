@@ -1,2 +1,3 @@
 mod ProcessorNumbers
 mod Accepting
+mod SpaceLists

@@ -1,9 +1,11 @@
 -- What comes of an event: the session accepts it, refuses it, or runs out of memory. `Stands` is the relation between a
 -- session and the moments that it stands for.
-use Rattle.std.specs.Prelude.{◌≡◌, ◌⊎◌, ℕ, Bool, true, false, IsTrue, Some, None}
+use Rattle.std.specs.Prelude.{◌≡◌, ◌⊎◌, ◌+◌, ◌≤◌, ℕ, Bool, true, false, IsTrue, Some, None}
+use Rattle.paging_model.specs.declared.spaces.SpaceKey.{SpaceKey}
 use Rattle.history_model.specs.Answering.{Answers}
 use Rattle.history_model.specs.History.{History, after_event}
-use Rattle.history_model.specs.Horizons.{slots_of}
+use Rattle.history_model.specs.Bounds.{BuildMayTake}
+use Rattle.history_model.specs.Horizons.{slots_of, space}
 use Rattle.history_model.specs.Refusals.{refusal}
 use Rattle.history_model.specs.declared.answers.Answer.{Answer}
 use Rattle.history_model.specs.declared.events.Event.{Event}
@@ -11,16 +13,27 @@ use Rattle.history_model.specs.declared.events.Event.TheVariants as event
 use Rattle.history_model.specs.declared.faults.StepFault.{StepFault}
 use Rattle.audit_core.specs.Standing.{Holding}
 
--- memory may run out at the event: the list of processors grows with it, or a page that is written to needs a block
+-- memory may run out at the event: the list of processors grows with it, a page that is written to needs a block, or a
+-- space is built
 abbrev pub may_run_out : Event → Bool
 may_run_out (event.Cpu _ _) = true
 may_run_out (event.Write _ _) = true
+may_run_out (event.List _) = true
 may_run_out _ = false
 
--- how many steps an accepted event may take: a write one for each of its slots
-abbrev pub step_limit : Event → ℕ
-step_limit (event.Write at bytes) = slots_of (event.Write at bytes)
-step_limit _ = 5
+-- how many steps an accepted event may take, in the moment before it: a write one for each of its slots, and a list as many
+-- as its space takes to be built
+abbrev pub StepsMayBe : History → Event → ℕ → Type 0
+StepsMayBe moment (event.Write at bytes) steps = steps ≤ slots_of (event.Write at bytes)
+StepsMayBe moment (event.List cpu) steps =
+    (key : SpaceKey) × (space moment cpu ≡ Some key) × BuildMayTake moment key steps
+StepsMayBe moment _ steps = steps ≤ 5
+
+-- it takes no more, of those before and after it
+pub record TakesSteps (moment : History) (happened : Event) (before after : ℕ) : Type 0 where
+  pub steps : ℕ
+  pub bound : StepsMayBe moment happened steps
+  pub within : after ≤ before + steps
 
 -- how many a refused one may take: a write one for each slot of a page, and one more
 abbrev pub refused_step_limit : Event → ℕ

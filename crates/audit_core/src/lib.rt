@@ -6,6 +6,7 @@
 #![tactic(auto)]
 
 mod asking;
+mod listing;
 mod processors;
 mod session;
 

@@ -6,10 +6,10 @@ ghost use Rattle.history_model.specs.History.{History, begun, regs_in};
 ghost use Rattle.history_model.specs.Refusals.{cpu_refusal};
 ghost use Rattle.phys_view.specs.Seen.{written_pages};
 ghost use Rattle.audit_core.specs.Standing.{HasAllOf, StandsFor, core_start};
-ghost use Rattle.audit_core.specs.Stepping.{AcceptsEvent, RefusesEvent, RunsOutOfMemory, step_limit, refused_step_limit};
+ghost use Rattle.audit_core.specs.Stepping.{AcceptsEvent, RefusesEvent, RunsOutOfMemory, TakesSteps, refused_step_limit};
 
-use crate::asking;
 use crate::processors::KnownProcessors;
+use crate::{asking, listing};
 use block_pool::Pool;
 use elf_core::Core;
 use history_model::answers::Answer;
@@ -28,6 +28,7 @@ use std::marker::Model;
 /// A session is poisoned once memory ran out: from then on it answers every event by `StepFault::Memory`.
 #[derive(Drop)]
 pub struct Session<'a, L: Ledger> {
+    alloc: Global,
     view: View<'a, L>,
     /// The blocks of the pages that were written to.
     pool: Pool,
@@ -69,6 +70,7 @@ impl<'a, L: Ledger> Session<'a, L> {
     {
         let processors = KnownProcessors::from_slice(alloc, core.processors.as_slice())?;
         Ok(Session {
+            alloc,
             view: View::new(alloc, core.segments),
             pool: Pool::new(alloc),
             machine: core.machine,
@@ -116,9 +118,12 @@ impl<'a, L: Ledger> Session<'a, L> {
             → RunsOutOfMemory StandsFor self.old self.new event.now }
         ensures stays_poisoned { IsTrue self.old.poisoned → result ≡ Err StepFault.Memory }
         ensures time { self.new.happened ≤ self.old.happened + 1 }
-        ensures cost { OnOk result (steps.new ≤ steps.old + step_limit event.now) }
-        ensures refused_cost { OnErr result
-            (steps.new ≤ steps.old + refused_step_limit event.now) }
+        ensures cost { (moment : History) → StandsFor self.old moment
+            → OnOk result (TakesSteps moment event.now steps.old steps.new) }
+        ensures out_of_memory_cost { (moment : History) → StandsFor self.old moment
+            → result ≡ Err StepFault.Memory → TakesSteps moment event.now steps.old steps.new }
+        ensures refused_cost { IfErr result (λ fault. fault ≢ StepFault.Memory
+            → steps.new ≤ steps.old + refused_step_limit event.now) }
     {
         self.handle(event, steps)
     }
@@ -134,9 +139,12 @@ impl<'a, L: Ledger> Session<'a, L> {
             → RunsOutOfMemory HasAllOf self.old self.new event.now }
         ensures stays_poisoned { IsTrue self.old.poisoned → result ≡ Err StepFault.Memory }
         ensures time { self.new.happened ≤ self.old.happened + 1 }
-        ensures cost { OnOk result (steps.new ≤ steps.old + step_limit event.now) }
-        ensures refused_cost { OnErr result
-            (steps.new ≤ steps.old + refused_step_limit event.now) }
+        ensures cost { (moment : History) → HasAllOf self.old moment
+            → OnOk result (TakesSteps moment event.now steps.old steps.new) }
+        ensures out_of_memory_cost { (moment : History) → HasAllOf self.old moment
+            → result ≡ Err StepFault.Memory → TakesSteps moment event.now steps.old steps.new }
+        ensures refused_cost { IfErr result (λ fault. fault ≢ StepFault.Memory
+            → steps.new ≤ steps.old + refused_step_limit event.now) }
     {
         if self.poisoned {
             return Err(StepFault::Memory);
@@ -151,6 +159,7 @@ impl<'a, L: Ledger> Session<'a, L> {
                 access,
                 pointer,
             } => self.ask(*cpu, *access, *pointer, steps),
+            Event::List { cpu } => self.list(*cpu, steps),
             _ => Err(StepFault::NotBuilt),
         }
     }
@@ -279,5 +288,34 @@ impl<'a, L: Ledger> Session<'a, L> {
         let answer = asking::ask(&self.view, &self.machine, regs, access, pointer, steps);
         self.happened += 1;
         Ok(Answer::Asked(answer))
+    }
+
+    /// Lists what a processor's space grants.
+    fn list(&mut self, cpu: u32, steps: &mut Steps<L>) -> Result<Answer, StepFault>
+        requires { self.old.happened + 1 < 2 ^ 32 }
+        ensures accepted { IfOk result (AcceptsEvent HasAllOf self.old self.new (Event.List cpu)) }
+        ensures refused { IfErr result (λ fault. fault ≢ StepFault.Memory
+            → RefusesEvent HasAllOf self.old self.new (Event.List cpu) fault) }
+        ensures out_of_memory { result ≡ Err StepFault.Memory
+            → RunsOutOfMemory HasAllOf self.old self.new (Event.List cpu) }
+        ensures time { self.new.happened ≤ self.old.happened + 1 }
+        ensures cost { (moment : History) → HasAllOf self.old moment
+            → OnOk result (TakesSteps moment (Event.List cpu) steps.old steps.new) }
+        ensures out_of_memory_cost { (moment : History) → HasAllOf self.old moment
+            → result ≡ Err StepFault.Memory
+            → TakesSteps moment (Event.List cpu) steps.old steps.new }
+        ensures refused_cost { IfErr result (λ fault. fault ≢ StepFault.Memory
+            → steps.new ≡ steps.old) }
+    {
+        let regs = self
+            .processors
+            .regs(cpu)
+            .ok_or(StepFault::NoProcessor(cpu))?;
+        let Ok(answer) = listing::list(self.alloc, &self.view, &self.machine, regs, steps) else {
+            self.poisoned = true;
+            return Err(StepFault::Memory);
+        };
+        self.happened += 1;
+        Ok(answer)
     }
 }

@@ -9,8 +9,10 @@ use history_model::answers::{Answer, Why};
 use history_model::events::Event;
 use history_model::faults::StepFault;
 use paging_model::access::{Access, Rule};
+use paging_model::access_sets::Rights;
 use paging_model::byte_strings::Payload;
 use paging_model::registers::{Machine, RegChange, RegRule, Regs};
+use paging_model::spaces::Area;
 use phys_view::{Ledger, Reader, Steps, answer_and_steps};
 use std::alloc::{AllocError, Global};
 use std::test::Fail;
@@ -32,7 +34,7 @@ const SEPARATED: RegChange = RegChange::Cr4(0x820_0020);
 const MACHINE: Event = Event::Machine(Machine { m: 40, big: true });
 
 /// An event that no step answers yet.
-const LIST: Event = Event::List { cpu: 0 };
+const POINT: Event = Event::Point { all: false };
 
 /// A processor with the small registers.
 const fn cpu(number: u32) -> Event {
@@ -42,6 +44,11 @@ const fn cpu(number: u32) -> Event {
 /// A change of a register.
 const fn set(cpu: u32, change: RegChange) -> Event {
     Event::Set { cpu, change }
+}
+
+/// A listing of a processor's space.
+const fn list(cpu: u32) -> Event {
+    Event::List { cpu }
 }
 
 /// A write to memory.
@@ -67,6 +74,8 @@ const fn ask(cpu: u32, access: Access, pointer: u64) -> Event {
 enum Said {
     Nothing,
     Asked(Result<u64, Why>),
+    /// The only area of a listing.
+    Listed(Area),
     Other,
     Refused(StepFault),
 }
@@ -76,6 +85,10 @@ fn said_of(step: Result<Answer, StepFault>) -> Said {
     match step {
         Ok(Answer::Nothing) => Said::Nothing,
         Ok(Answer::Asked(asked)) => Said::Asked(asked),
+        Ok(Answer::Listed(areas)) => match areas.as_slice() {
+            [area] => Said::Listed(*area),
+            _ => Said::Other,
+        },
         Ok(_) => Said::Other,
         Err(fault) => Said::Refused(fault),
     }
@@ -196,7 +209,7 @@ fn refused_events_change_nothing(rt: HostRuntime) -> Result<(), Fail> {
     let (summary, steps) = summary_of(
         rt.alloc(),
         &[
-            LIST,
+            POINT,
             MACHINE,
             MACHINE,
             cpu(0),
@@ -278,6 +291,52 @@ fn writes_are_seen_by_later_asks(rt: HostRuntime) -> Result<(), Fail> {
         [0, 0, 0, 1, 1, 1, 1, 2, 2, 2, 2, 2].as_slice()
     );
     assert_eq!(rt; (summary.now, summary.processors, steps), (8, 2, 10));
+    Ok(())
+}
+
+/// A page that only a supervisor reaches; then one more, whose frame follows; then users reach the first of them.
+#[test]
+fn lists_go_by_what_was_written(rt: HostRuntime) -> Result<(), Fail> {
+    let alloc = rt.alloc();
+    let first = Area {
+        first: 0,
+        last: 0x3fff_ffff,
+        frame: 0x4000_0000,
+        rights: Rights::of_number(0b1111_1000),
+    };
+    let both = Area {
+        last: 0x7fff_ffff,
+        ..first
+    };
+    let (summary, steps) = summary_of(
+        alloc,
+        &[
+            cpu(0),
+            list(0),
+            write(alloc, 0x2008, &[0x83, 0, 0, 0x80])?,
+            list(0),
+            list(1),
+            write(alloc, 0x1000, &[0x07])?,
+            write(alloc, 0x2000, &[0x87])?,
+            list(0),
+        ],
+    )?;
+    assert_eq!(rt;
+        summary.said.as_slice(),
+        [
+            Said::Nothing,
+            Said::Listed(first),
+            Said::Nothing,
+            Said::Listed(both),
+            Said::Refused(StepFault::NoProcessor(1)),
+            Said::Nothing,
+            Said::Nothing,
+            Said::Other,
+        ]
+        .as_slice()
+    );
+    // Each list reads two tables.
+    assert_eq!(rt; (summary.now, steps), (6, 3 * 2 * 512));
     Ok(())
 }
 

@@ -30,6 +30,7 @@ is_built (event.Cpu _ _) = true
 is_built (event.Write _ _) = true
 is_built (event.Set _ _) = true
 is_built (event.Ask _ _ _) = true
+is_built (event.List _) = true
 is_built _ = false
 
 -- a rule for registers is broken

@@ -38,7 +38,7 @@ fn lines_are_answered_or_refused(rt: HostRuntime) -> Result<(), Fail> {
         ),
         (b"ask 0 ur 0x800000000000\n", b"denied not-canonical\n", 0),
         (
-            b"ask 0 sr 0x0\nlist 0\nask 0 sr 0x0\n",
+            b"ask 0 sr 0x0\npoint current\nask 0 sr 0x0\n",
             b"granted 0x5000\nline 2 refused: not built\n",
             4,
         ),
@@ -247,6 +247,60 @@ fn writes_change_what_is_granted(rt: HostRuntime) -> Result<(), Fail> {
             b"line 1 refused: unknown 0x10000\n",
             4,
         ),
+    ];
+    for (log, text, status) in cases {
+        let (written, code) = outcome(rt.alloc(), &core, log)?;
+        assert_eq!(rt; written.as_slice(), text);
+        assert_eq!(rt; code, status);
+    }
+    Ok(())
+}
+
+/// The example core maps a page with all rights and one that isn't writable, both for users.
+#[test]
+fn lists_say_what_is_granted(rt: HostRuntime) -> Result<(), Fail> {
+    let core = example_core(rt.alloc())?;
+    let cases: [(&[u8], &[u8], u8); 7] = [
+        (
+            b"list 0\n",
+            b"areas 2\n0x0 0xfff 0x5000 rwxrwxrw\n0x1000 0x1fff 0x6000 r-xr-xr-\n",
+            0,
+        ),
+        // The second page gets R/W: its frame follows the first one's, and both are one area.
+        (
+            b"write 0x4008 0760000000000000\nlist 0\n",
+            b"areas 1\n0x0 0x1fff 0x5000 rwxrwxrw\n",
+            0,
+        ),
+        // Without WP a supervisor writes to what isn't writable.
+        (
+            b"set 0 cr0 0x80000001\nlist 0\n",
+            b"areas 2\n0x0 0xfff 0x5000 rwxrwxrw\n0x1000 0x1fff 0x6000 r-xrwxrw\n",
+            0,
+        ),
+        // SMEP and SMAP keep a supervisor from users' pages; with AC, its reads and writes pass that are explicit.
+        (
+            b"set 0 cr4 0x300020\nlist 0\nset 0 ac 1\nlist 0\n",
+            b"areas 2\n0x0 0xfff 0x5000 rwx-----\n0x1000 0x1fff 0x6000 r-x-----\n\
+              areas 2\n0x0 0xfff 0x5000 rwxrw---\n0x1000 0x1fff 0x6000 r-xr----\n",
+            0,
+        ),
+        // Entry 256 of the PML4 references the PML4: each table below it is a page too.
+        (
+            b"write 0x1800 0710000000000000\nlist 0\n",
+            b"areas 6\n0x0 0xfff 0x5000 rwxrwxrw\n0x1000 0x1fff 0x6000 r-xr-xr-\n\
+              0xffff800000000000 0xffff800000000fff 0x4000 rwxrwxrw\n\
+              0xffff804000000000 0xffff804000000fff 0x3000 rwxrwxrw\n\
+              0xffff804020000000 0xffff804020000fff 0x2000 rwxrwxrw\n\
+              0xffff804020100000 0xffff804020100fff 0x1000 rwxrwxrw\n",
+            0,
+        ),
+        (
+            b"write 0x2000 e700004000000000\nlist 0\n",
+            b"areas 1\n0x0 0x3fffffff 0x40000000 rwxrwxrw\n",
+            0,
+        ),
+        (b"list 3\n", b"line 1 refused: no processor 3\n", 4),
     ];
     for (log, text, status) in cases {
         let (written, code) = outcome(rt.alloc(), &core, log)?;

@@ -1,0 +1,18 @@
+use Rattle.std.proofs.Common.{sym}
+use Rattle.audit_core.proofs.SpaceLists.{list-accepted, list-steps}
+use Rattle.audit_core.proofs.session.Session.list.Goals as goal
+
+pub returns-clause-accepted : goal.returns-clause-accepted
+returns-clause-accepted g c =
+    let found = rw c.in_ok-regs.ensures.ok_part at c.regs.ensures in
+    rw (sym c.self.view_is) (list-accepted _ c.args.cpu _ c.in-Ok.answer (sym found) c.in-Ok.ensures.value)
+
+pub returns-clause-cost : goal.returns-clause-cost
+returns-clause-cost g c =
+    let found = rw c.in_ok-regs.ensures.ok_part at c.regs.ensures in
+    rw (sym c.self.view_is) (list-steps _ c.args.cpu _ _ _ (sym found) c.in-Ok.ensures.cost)
+
+pub returns-in_default-clause-out_of_memory_cost : goal.returns-in_default-clause-out_of_memory_cost
+returns-in_default-clause-out_of_memory_cost g c =
+    let found = rw c.in_ok-regs.ensures.ok_part at c.regs.ensures in
+    rw (sym c.self.view_is) (λ moment has memory. list-steps _ c.args.cpu _ _ _ (sym found) c.list.ensures.cost moment has)
