@@ -117,6 +117,7 @@ impl<'a, L: Ledger> Session<'a, L> {
         ensures out_of_memory { result ≡ Err StepFault.Memory
             → RunsOutOfMemory StandsFor self.old self.new event.now }
         ensures stays_poisoned { IsTrue self.old.poisoned → result ≡ Err StepFault.Memory }
+        ensures poisoned_cost { IsTrue self.old.poisoned → steps.new ≡ steps.old }
         ensures time { self.new.happened ≤ self.old.happened + 1 }
         ensures cost { (moment : History) → StandsFor self.old moment
             → OnOk result (TakesSteps moment event.now steps.old steps.new) }
@@ -138,6 +139,7 @@ impl<'a, L: Ledger> Session<'a, L> {
         ensures out_of_memory { result ≡ Err StepFault.Memory
             → RunsOutOfMemory HasAllOf self.old self.new event.now }
         ensures stays_poisoned { IsTrue self.old.poisoned → result ≡ Err StepFault.Memory }
+        ensures poisoned_cost { IsTrue self.old.poisoned → steps.new ≡ steps.old }
         ensures time { self.new.happened ≤ self.old.happened + 1 }
         ensures cost { (moment : History) → HasAllOf self.old moment
             → OnOk result (TakesSteps moment event.now steps.old steps.new) }
