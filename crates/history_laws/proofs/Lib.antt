@@ -15,3 +15,4 @@ pub mod WriteLaws
 pub mod KeyLaws
 pub mod KeptLaws
 pub mod CostLaws
+pub mod TimeLaws

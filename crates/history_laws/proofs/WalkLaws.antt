@@ -97,7 +97,7 @@ stands_below history p c x level held above known is_known current two over refe
     }
 
 -- of the first address of a page
-own_frame-page : (level frame page : ℕ) → page % 4096 ≡ 0 → own_frame level page frame ≡ frame + page % span level
+pub own_frame-page : (level frame page : ℕ) → page % 4096 ≡ 0 → own_frame level page frame ≡ frame + page % span level
 own_frame-page level frame page aligned =
     let k : 12 + 9 * (level - 1) ≡ 9 * (level - 1) + 12 = omega arith in
     let whole : page % span level % 4096 ≡ 0 = ap (λ n. page % 2 ^ n % 4096) k ∙ (mod-mod-pow page (9 * (level - 1)) 12 ∙ aligned) in
@@ -123,7 +123,7 @@ present_when_it_stands history p c page level held known is_known aligned leaf s
     subst (λ one. IsPageOf (pge one) level page held (walk (memory history) (settings_of one (machine history)) (root_of one (machine history)) page)) same (stands.comes_to.page leaf) in
     record { walked = walked; translated = translation_of_page (memory history) (machine history) known level page held (pge known) aligned walked }
 
-not_over_itself : (target : Target ℕ) → Exceeds (Some target) target → ⊥
+pub not_over_itself : (target : Target ℕ) → Exceeds (Some target) target → ⊥
 not_over_itself target (inl differs) = differs refl
 not_over_itself target (inr more) = let granted = more.1 in let refused = more.2 in absurd (cc (granted, refused))
 

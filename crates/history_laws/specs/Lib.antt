@@ -5,3 +5,4 @@ pub mod Executing
 pub mod UntouchedUses
 pub mod Costs
 pub mod WrittenSlots
+pub mod MomentsByTime

@@ -8,5 +8,6 @@
 pub mod bounds;
 pub mod points;
 pub mod spaces;
+pub mod times;
 pub mod translations;
 pub mod writes;

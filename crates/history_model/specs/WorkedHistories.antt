@@ -16,7 +16,7 @@ use Rattle.history_model.specs.Asking.{answer_to_ask}
 use Rattle.history_model.specs.History.{Start, History, begun, next, after_event, time, memory, machine, processors, regs, page_of, pages, pcid, visited_pcids, last_root}
 use Rattle.history_model.specs.Horizons.{horizon, least, changes, frames}
 use Rattle.history_model.specs.Invalidations.{kills, loses_all}
-use Rattle.history_model.specs.Refusals.{refusal, rule_refusal, first_unknown, is_among, write_refusal, LeadsTo}
+use Rattle.history_model.specs.Refusals.{refusal, first_unknown, is_among, write_refusal, LeadsTo}
 use Rattle.history_model.specs.declared.answers.Why.TheVariants as why
 use Rattle.history_model.specs.declared.caches.CacheKey.{CacheKey}
 use Rattle.history_model.specs.declared.events.Event.{Event}
@@ -205,7 +205,7 @@ pub record OfRefusalLimits : Type 0 where
       → write_refusal known touched at n ≡ None
 
 pub record OfRefusals : Type 0 where
-  pub not_built : refusal (begun small_start) (event.Invpcid 0 4 0 0) ≡ Some fault.NotBuilt
+  pub not_built : refusal (begun small_start) (event.Point true) ≡ Some fault.NotBuilt
   pub second_machine : refusal (begun small_start) (event.Machine small_machine) ≡ Some fault.LateState
   pub machine_after_a_processor : refusal (begun (record small_start { stated = false })) (event.Machine small_machine)
       ≡ Some fault.LateState
@@ -217,15 +217,15 @@ pub record OfRefusals : Type 0 where
   pub illegal_change : refusal three_pcids (event.Set 0 (change.Cr4 0x1020)) ≡ Some (fault.Illegal register.La57Changed)
   pub stranger : refusal three_pcids (event.Ask 3 access.Ur 0) ≡ Some (fault.NoProcessor 3)
   pub known : refusal three_pcids (event.Ask 1 access.Ur 0) ≡ None
-  pub bad_type : rule_refusal (begun small_start) (event.Invpcid 0 4 5000 0) ≡ Some fault.BadType
-  pub bad_pcid : rule_refusal (begun small_start) (event.Invpcid 0 3 4096 0) ≡ Some fault.BadPcid
-  pub pcid_without_pcids : rule_refusal (begun small_start) (event.Invpcid 0 1 1 0) ≡ Some fault.BadPcid
-  pub pcid_of_no_use : rule_refusal (begun small_start) (event.Invpcid 0 2 1 0) ≡ None
-  pub not_canonical : rule_refusal (begun small_start) (event.Invpcid 0 0 0 0x800000000000) ≡ Some fault.NotCanonical
+  pub bad_type : refusal (begun small_start) (event.Invpcid 0 4 5000 0) ≡ Some fault.BadType
+  pub bad_pcid : refusal (begun small_start) (event.Invpcid 0 3 4096 0) ≡ Some fault.BadPcid
+  pub pcid_without_pcids : refusal (begun small_start) (event.Invpcid 0 1 1 0) ≡ Some fault.BadPcid
+  pub pcid_of_no_use : refusal (begun small_start) (event.Invpcid 0 2 1 0) ≡ None
+  pub not_canonical : refusal (begun small_start) (event.Invpcid 0 0 0 0x800000000000) ≡ Some fault.NotCanonical
   pub unknown : refusal (begun small_start) (event.Write 0x4014 zeros) ≡ Some (fault.Unknown 0x4018)
-  pub not_canonical_of_five : rule_refusal (begun five_level_start)
+  pub not_canonical_of_five : refusal (begun five_level_start)
       (event.Invpcid 0 0 0 0x100000000000000) ≡ Some fault.NotCanonical
-  pub canonical_of_five : rule_refusal (begun five_level_start)
+  pub canonical_of_five : refusal (begun five_level_start)
       (event.Invpcid 0 0 0 0x800000000000) ≡ None
   pub unknown_before_crosses : refusal
       (begun (record small_start { extents = record { start = 0x1ffc; bytes = 0 ∷ 0 ∷ 0 ∷ 0 ∷ [] } ∷ [] }))
