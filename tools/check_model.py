@@ -90,9 +90,9 @@ def check_names(text):
 
 
 def check_laws(text):
-    """The functions of the two crates of laws, and the program's laws, are those of the page's tables of laws."""
+    """The functions of the three crates of laws, and the program's laws, are those of the page's tables of laws."""
     proved = set()
-    for pattern in ("paging_laws/src/*.rt", "history_laws/src/*.rt", "rights/src/laws.rt"):
+    for pattern in ("paging_laws/src/*.rt", "history_laws/src/*.rt", "audit_laws/src/*.rt", "rights/src/laws.rt"):
         for path in (ROOT / "crates").glob(pattern):
             proved |= set(re.findall(r"^pub fn (\w+)", path.read_text(encoding="utf-8"), re.M))
     part = text.split("\n## Laws\n")[1].split("\n## ")[0]

@@ -15,9 +15,10 @@ use Rattle.region_map.specs.Coalesced.{AreCoalesced, IsFilled, stretches, target
 use Rattle.region_map.proofs.Indices.{parts-at}
 use Rattle.region_map.proofs.Joining.{filled-among}
 use Rattle.area_list.specs.AreaLists.{AreAreasOf, IsAppended, IsGrantAdded, IsUnmappedFrom, area_stretches, area_target}
-use Rattle.area_list.specs.Zones.{AreOfOneZone, IsReachOf}
+use Rattle.paging_laws.specs.ReachedAddresses.{AreOfOneZone}
+use Rattle.area_list.specs.ReachSets.{IsReachOf}
 use Rattle.area_list.proofs.Orders.{none-before}
-use Rattle.area_list.proofs.Reaching.{reaches-zone}
+use Rattle.paging_laws.proofs.ZoneLaws.{reaches-zone}
 
 -- sets with the same members have one number
 pub set_number-same : (one other : Access → Bool) → ((access : Access) → one access ≡ other access) → set_number one ≡ set_number other

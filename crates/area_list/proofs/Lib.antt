@@ -1,4 +1,3 @@
-pub mod Reaching
 pub mod Orders
 pub mod LastAreas
 pub mod Granting

@@ -4,7 +4,7 @@ use Rattle.paging_model.specs.LinearAddress.{is_canonical}
 use Rattle.paging_model.specs.Registers.{la57}
 use Rattle.paging_model.specs.declared.registers.Regs.{Regs}
 use Rattle.area_list.specs.Protections.{ArePermitted}
-use Rattle.area_list.specs.Zones.{IsReachOf}
+use Rattle.area_list.specs.ReachSets.{IsReachOf}
 use Rattle.area_list.specs.declared.grants.Grants.{Grants}
 
 -- the accesses that reach a canonical address, and those that each protection permits

@@ -1,4 +1,4 @@
-pub mod Zones
+pub mod ReachSets
 pub mod Protections
 pub mod KeptGrants
 pub mod AreaLists

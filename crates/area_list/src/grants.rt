@@ -5,7 +5,7 @@ ghost use Rattle.paging_model.specs.LinearAddress.{is_canonical};
 ghost use Rattle.paging_model.specs.Registers.{la57};
 ghost use Rattle.paging_model.specs.Translations.{rights_of};
 ghost use Rattle.paging_model.specs.declared.registers.Regs.{Regs};
-ghost use Rattle.area_list.specs.Zones.{IsReachOf};
+ghost use Rattle.area_list.specs.ReachSets.{IsReachOf};
 
 use crate::protections::{PROTECTIONS, permitted_by, permitted_by_all};
 use crate::zones::is_one_zone;

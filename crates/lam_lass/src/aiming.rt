@@ -2,7 +2,7 @@
 
 ghost use Rattle.std.specs.Prelude.{◌≡◌, ◌&&◌};
 ghost use Rattle.paging_model.specs.AccessSets.{has};
-ghost use Rattle.lam_lass.specs.Reach.{is_same};
+ghost use Rattle.paging_laws.specs.ReachedAddresses.{is_same};
 ghost use Rattle.paging_model.specs.LinearAddress.{is_canonical};
 ghost use Rattle.paging_model.specs.Pointers.{address_of as address_by, aim_of, lass_refuses, mask_width as width_of, reaches};
 ghost use Rattle.paging_model.specs.Registers.{la57, lass};
@@ -44,7 +44,7 @@ pub fn aim(regs: &Regs, access: Access, pointer: u64) -> Result<u64, AimRule>
 
 /// The accesses that go to an address by the pointer that spells it: those for which `aim` of the address is the
 /// address itself. Where it isn't canonical there are none.
-#[tactic(auto, using(crate::proofs::Reached::reaches_is))]
+#[tactic(auto, using(paging_laws::proofs::ReachLaws::reaches_is))]
 pub fn reach(regs: &Regs, address: u64) -> Rights
     ensures { (access : Access) → has result access ≡ reaches regs.now access address }
 {

@@ -1,3 +1,5 @@
+pub mod ReachLaws
+pub mod ZoneLaws
 pub mod Readings
 pub mod Reaching
 pub mod TableFrames

@@ -6,3 +6,4 @@ pub mod SpaceParts
 pub mod ReachedSlots
 pub mod EntryParts
 pub mod WorkedParts
+pub mod ReachedAddresses

@@ -10,5 +10,6 @@ pub mod entries;
 pub mod examples;
 pub mod leaves;
 pub mod listings;
+pub mod pointers;
 pub mod spaces;
 pub mod walks;

@@ -1,7 +1,7 @@
 use Rattle.std.proofs.lemmas.Result.{on_ok_weaker}
 use Rattle.paging_model.specs.Registers.{la57}
 use Rattle.area_list.proofs.Granting.{part-added}
-use Rattle.area_list.proofs.Reaching.{range-zone}
+use Rattle.paging_laws.proofs.ZoneLaws.{range-zone}
 use Rattle.area_list.proofs.listing.add_part.Goals as goal
 
 pub returns-clause-added : goal.returns-clause-added

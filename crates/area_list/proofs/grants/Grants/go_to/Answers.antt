@@ -1,5 +1,5 @@
 use Rattle.std.proofs.Common.{◌∙◌}
-use Rattle.area_list.proofs.Reaching.{reaches-zone}
+use Rattle.paging_laws.proofs.ZoneLaws.{reaches-zone}
 use Rattle.area_list.proofs.grants.Grants.go_to.Goals as goal
 
 pub returns-then-is_one_zone-clause-reach : goal.returns-then-is_one_zone-clause-reach

@@ -1,8 +1,9 @@
--- The same accesses reach every address of a zone.
+-- The same accesses reach every address of a zone, and those that share their bits from 47 on.
 use Rattle.std.proofs.Common.{◌≡◌, ℕ, ◌+◌, ◌-◌, ◌/◌, ◌%◌, ◌^◌, ◌<◌, ◌≤◌, ◌⊎◌, inl, inr, Bool, true, false, Option, Some, None, ◌&&◌, refl, sym, ap, ◌∙◌, arith}
 use Rattle.std.specs.Prelude.{IsTrue, ◌==◌, ◌||◌, not, nat_lt, if◌then◌else◌}
 use Rattle.std.proofs.lemmas.Bool.Decides.{nat_tests}
 use Rattle.std.proofs.lemmas.Bool.{cases_lt}
+use Rattle.std.proofs.lemmas.Nat.{shr-shr}
 use Rattle.paging_model.specs.AccessKinds.{is_fetch, is_user}
 use Rattle.paging_model.specs.AccessRights.{smap_applies}
 use Rattle.paging_model.specs.BitRanges.{bit, field, differs}
@@ -11,9 +12,8 @@ use Rattle.paging_model.specs.Pointers.{address_of, is_masked, is_upper, lass_re
 use Rattle.paging_model.specs.Registers.{la57, lass, lam_sup, lam_u57, lam_u48}
 use Rattle.paging_model.specs.declared.registers.Regs.{Regs}
 use Rattle.paging_model.specs.declared.access.Access.{Access}
-use Rattle.lam_lass.specs.Reach.{is_same}
-use Rattle.lam_lass.proofs.Reached.{reaches_is}
-use Rattle.area_list.specs.Zones.{AreOfOneZone}
+use Rattle.paging_laws.specs.ReachedAddresses.{AreOfOneZone, is_same}
+use Rattle.paging_laws.proofs.ReachLaws.{reaches_is}
 
 same_test : (n x : ℕ) → n ≡ x → (n == x) ≡ true
 same_test n x is = grind (arith, nat_tests)
@@ -185,3 +185,44 @@ range-zone five first last x canonical ends side from to = record {
     | inr high ↦ lt_false first (2 ^ 47) high ∙ sym (lt_false x (2 ^ 47) (omega arith))
   ];
 }
+
+shifted : (x y k : ℕ) → x / 2 ^ 47 ≡ y / 2 ^ 47 → x / 2 ^ (47 + k) ≡ y / 2 ^ (47 + k)
+shifted x y k h = sym (shr-shr x 47 k) ∙ (ap (λ n. n / 2 ^ k) h ∙ shr-shr y 47 k)
+
+upper-same : (x y : ℕ) → x / 2 ^ 47 ≡ y / 2 ^ 47 → is_upper x ≡ is_upper y
+upper-same x y h = ap (λ n. n % 2 == 1) (shifted x y 16 h)
+
+canonical-same : (five_levels : Bool) (x y : ℕ) → x / 2 ^ 47 ≡ y / 2 ^ 47 → is_canonical five_levels x ≡ is_canonical five_levels y
+canonical-same true x y h = ap (λ n. n % 2 ^ 8 == 0 || n % 2 ^ 8 == 2 ^ 8 - 1) (shifted x y 9 h)
+canonical-same false x y h = ap (λ n. n % 2 ^ 17 == 0 || n % 2 ^ 17 == 2 ^ 17 - 1) h
+
+low-same : (x y : ℕ) → x / 2 ^ 47 ≡ y / 2 ^ 47 → nat_lt x (2 ^ 47) ≡ nat_lt y (2 ^ 47)
+low-same x y h = by_test (nat_lt x (2 ^ 47)) refl
+  where
+    by_test : (b : Bool) → nat_lt x (2 ^ 47) ≡ b → nat_lt x (2 ^ 47) ≡ nat_lt y (2 ^ 47)
+    by_test true e = let less : x < 2 ^ 47 = grind (arith, nat_tests, e) in e ∙ (let other : y < 2 ^ 47 = omega arith in let is : nat_lt y (2 ^ 47) ≡ true = grind (arith, nat_tests, other) in sym is)
+    by_test false e = let more : 2 ^ 47 ≤ x = grind (arith, nat_tests, e) in e ∙ (let other : 2 ^ 47 ≤ y = omega arith in let is : nat_lt y (2 ^ 47) ≡ false = grind (arith, nat_tests, other) in sym is)
+
+-- no access reaches an address that isn't canonical
+unreached : (known : Regs) (access : Access) (x : ℕ) → is_canonical (la57 known) x ≡ false → reaches known access x ≡ false
+unreached known access x no_page =
+    reaches_is known x access
+    ∙ ap (λ (c : Bool). (c && is_same (address_of (mask_width known access x) x) x) && not (lass known && lass_refuses known access x)) no_page
+
+-- addresses that share their bits from 47 on are reached by the same accesses
+pub reaches-same : (known : Regs) (access : Access) (x y : ℕ) → x < 2 ^ 64 → x / 2 ^ 47 ≡ y / 2 ^ 47 → reaches known access x ≡ reaches known access y
+reaches-same known access x y below h = by_test (is_canonical (la57 known) x) refl
+  where
+    other_canonical : is_canonical (la57 known) y ≡ is_canonical (la57 known) x
+    other_canonical = sym (canonical-same (la57 known) x y h)
+
+    by_test : (b : Bool) → is_canonical (la57 known) x ≡ b → reaches known access x ≡ reaches known access y
+    by_test true e = reaches-zone known access x y (record {
+      below = below;
+      other_below = omega arith;
+      canonical = e;
+      other_canonical = other_canonical ∙ e;
+      half = upper-same x y h;
+      low = low-same x y h;
+    })
+    by_test false e = unreached known access x e ∙ sym (unreached known access y (other_canonical ∙ e))

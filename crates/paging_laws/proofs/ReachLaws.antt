@@ -9,7 +9,7 @@ use Rattle.paging_model.specs.Registers.{la57, lass}
 use Rattle.paging_model.specs.declared.registers.Regs.{Regs}
 use Rattle.paging_model.specs.declared.access.Access.{Access}
 use Rattle.paging_model.specs.declared.access.AimRule.TheVariants.{NotCanonical, Lass}
-use Rattle.lam_lass.specs.Reach.{is_same}
+use Rattle.paging_laws.specs.ReachedAddresses.{is_same}
 
 at_itself : (canonical refused : Bool) (x : ℕ) → is_at (if not canonical then Err NotCanonical else (if refused then Err Lass else Ok x)) x ≡ ((canonical && x == x) && not refused)
 at_itself true true x = grind (arith, common_steps, nat_tests)
