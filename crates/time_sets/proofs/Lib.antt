@@ -1,0 +1,5 @@
+pub mod IntervalLists
+pub mod IntersectionSteps
+pub mod UnionSteps
+pub mod Searches
+pub mod LastIntervals

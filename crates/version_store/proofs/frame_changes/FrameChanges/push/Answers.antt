@@ -1,0 +1,32 @@
+use Rattle.std.proofs.Common.{◌≡◌, ◌+◌, sym, ap, ◌∙◌, arith}
+use Rattle.std.proofs.lemmas.Grind.{common_steps}
+use Rattle.version_store.specs.Records.{changes_in, IsFilledTo}
+use Rattle.version_store.proofs.Packing.{changes_in-push, blocks-pushed, blocks-counted}
+use Rattle.version_store.proofs.frame_changes.FrameChanges.push.Goals as goal
+
+pub returns-clause-ok : goal.returns-clause-ok
+returns-clause-ok c =
+    let len : c.in-Some.len ≡ c.self.inside.len + 1 = grind (arith, common_steps) in
+    rw (sym c.self.view_is)
+    (ap (changes_in c.put_change.new.blocks.items) len
+    ∙ changes_in-push c.self.inside.blocks.items c.make_room.new.blocks.items c.put_change.new.blocks.items c.self.inside.len c.args.change c.self.invariant.filled (λ k below. c.in_ok-is_new.ensures.same k (omega arith)) c.put_change.ensures.value c.put_change.ensures.others)
+
+pub returns-clause-blocks : goal.returns-clause-blocks
+returns-clause-blocks c =
+    let len : c.in-Some.len ≡ c.self.inside.len + 1 = grind (arith, common_steps) in
+    let filled : IsFilledTo c.put_change.new.blocks.items c.in-Some.len =
+    let room = c.in_ok-is_new.ensures.ok.room in
+    let full = c.in_ok-is_new.ensures.ok.full in
+    record { room = omega (arith, len); full = omega (arith, len) } in
+    rw (sym c.self.view_is)
+    (blocks-pushed c.self.inside.blocks.items c.put_change.new.blocks.items c.self.inside.len c.in-Some.len _ c.self.invariant.filled filled (let more = c.in_ok-is_new.ensures.more in omega (arith, more)))
+
+pub returns-clause-counts : goal.returns-clause-counts
+returns-clause-counts c =
+    let len : c.in-Some.len ≡ c.self.inside.len + 1 = grind (arith, common_steps) in
+    let filled : IsFilledTo c.put_change.new.blocks.items c.in-Some.len =
+    let room = c.in_ok-is_new.ensures.ok.room in
+    let full = c.in_ok-is_new.ensures.ok.full in
+    record { room = omega (arith, len); full = omega (arith, len) } in
+    rw (sym c.self.view_is)
+    (blocks-counted c.self.inside.blocks.items c.put_change.new.blocks.items c.self.inside.len c.in-Some.len _ _ c.self.invariant.filled filled (let counts = c.make_room.ensures.counts in omega (arith, counts)))

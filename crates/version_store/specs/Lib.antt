@@ -1,0 +1,4 @@
+pub mod Changes
+pub mod Records
+pub mod Spanning
+pub mod WrittenChanges
