@@ -7,6 +7,7 @@
 mod linear_addresses;
 mod walking;
 
+pub use linear_addresses::{entry_address, span};
 pub use walking::walk;
 
 #[cfg(test)]

@@ -12,7 +12,7 @@ const ENTRIES: u64 = 512;
 const PAGE_SIZE: u64 = 4096;
 
 /// The physical address of the entry that serves an address, in a table of a level.
-pub(crate) fn entry_address(level: u8, table: u64, address: u64) -> u64
+pub fn entry_address(level: u8, table: u64, address: u64) -> u64
     requires least { 1 ≤ level }
     requires most { level ≤ 5 }
     requires aligned { table % 4096 ≡ 0 }
@@ -37,7 +37,7 @@ pub(crate) fn own_frame(level: u8, frame: u64, address: u64) -> u64
 }
 
 /// The length in bytes of the range that one entry of a level serves.
-fn span(level: u8) -> u64
+pub fn span(level: u8) -> u64
     requires least { 1 ≤ level }
     requires most { level ≤ 5 }
     ensures value { result ≡ span_of level }

@@ -1,0 +1,11 @@
+pub mod KeptLaws
+pub mod ReadyLaws
+pub mod FoundLaws
+pub mod CanonicalLaws
+pub mod PointLaws
+pub mod TimesLaws
+pub mod RootTimes
+pub mod HostLaws
+pub mod ScopeLaws
+pub mod AuditableLaws
+pub mod NotedLaws

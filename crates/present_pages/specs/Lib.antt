@@ -1,0 +1,2 @@
+pub mod PresentRanges
+pub mod StalePages

@@ -1,0 +1,9 @@
+pub mod EntryLaws
+pub mod LeafLaws
+pub mod ReferenceLaws
+pub mod SlotLaws
+pub mod RangeLaws
+pub mod UnderLaws
+pub mod TableLaws
+pub mod TopLaws
+pub mod RootLaws

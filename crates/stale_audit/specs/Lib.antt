@@ -1,0 +1,4 @@
+pub mod Facts
+pub mod Findings
+pub mod SlotEntries
+pub mod Tops

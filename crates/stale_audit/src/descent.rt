@@ -1,0 +1,122 @@
+//! The descent of the tables.
+
+ghost use Rattle.std.specs.Prelude.{◌≡◌, ℕ, ◌+◌, ◌-◌, ◌<◌, ◌≤◌, true, IfOk};
+ghost use Rattle.audit_laws.specs.Firsts.{IsFirst};
+ghost use Rattle.audit_laws.specs.Leads.{IsTimeOf};
+ghost use Rattle.paging_model.specs.Entries.{IsFrame};
+ghost use Rattle.paging_model.specs.LinearAddress.{span};
+ghost use Rattle.present_pages.specs.PresentRanges.{IsPresentRange};
+ghost use Rattle.stale_audit.specs.Facts.{IsOfHome, AreTimely};
+ghost use Rattle.stale_audit.specs.Findings.{IsFoundIn, NothingFound};
+ghost use Rattle.stale_audit.specs.SlotEntries.{IsTimed, is_in_use};
+ghost use Rattle.time_sets.specs.Sets.{has_time};
+
+use crate::firsts::first_of_two;
+use crate::point::Point;
+use crate::ranges::slot_range;
+use crate::slots::slot_findings;
+use crate::timed_tables::{TimedTable, timed_table};
+use audit_laws::stale_pages::StalePage;
+use paging_model::entries::Bits;
+use phys_view::{Ledger, Steps};
+use present_pages::PresentRange;
+use std::alloc::AllocError;
+use time_sets::Times;
+
+/// The first finding under a table; `range` is that of the table, whose level is one less. The slots serve ascending
+/// addresses: the first of them that has a finding has the first.
+#[cycle(audit)]
+fn audit_table<L: Ledger>(
+    point: &Point<'_, '_, L>,
+    table: &TimedTable,
+    range: PresentRange,
+    steps: &mut Steps<L>,
+) -> Result<Option<StalePage>, AllocError>
+    requires ready { AreTimely point.now }
+    requires timed { IsTimed point.now table.now }
+    requires range { IsPresentRange range }
+    requires least { 2 ≤ range.level }
+    requires most { range.level ≤ 5 }
+    requires home { IsOfHome point.now range }
+    ensures { IfOk result (IsFirst (IsFoundIn point.now range.first
+        (range.first + span range.level) (IsTimeOf (is_in_use table.now))
+        (range.level - 1) table.now.frame table.now.bits)) }
+{
+    for i in 0..512u64 {
+        let slot = slot_range(point, range, i, steps);
+        let found = audit_slot(point, table, slot, steps)?;
+        if found.is_some() {
+            return Ok(found);
+        }
+    }
+    Ok(None)
+}
+
+/// The first finding by the entries of one slot, and under the tables that they reference; `range` is that of the slot.
+#[cycle(audit)]
+pub(crate) fn audit_slot<L: Ledger>(
+    point: &Point<'_, '_, L>,
+    table: &TimedTable,
+    range: PresentRange,
+    steps: &mut Steps<L>,
+) -> Result<Option<StalePage>, AllocError>
+    requires ready { AreTimely point.now }
+    requires timed { IsTimed point.now table.now }
+    requires range { IsPresentRange range }
+    requires most { range.level ≤ 5 }
+    requires home { IsOfHome point.now range }
+    ensures { IfOk result (IsFirst (IsFoundIn point.now range.first
+        (range.first + span range.level) (IsTimeOf
+        (is_in_use table.now)) range.level table.now.frame table.now.bits)) }
+{
+    let slot = slot_findings(point, table, range, steps)?;
+    let mut best = slot.found;
+    for lower in &slot.tables {
+        let found = audit_below(point, range, lower.frame, lower.bits, &lower.times, steps)?;
+        best = first_of_two(best, found);
+    }
+    Ok(best)
+}
+
+/// The first finding under a table that an entry of a slot references, at some times of its use; `range` is that of the
+/// slot.
+#[cycle(audit)]
+fn audit_below<L: Ledger>(
+    point: &Point<'_, '_, L>,
+    range: PresentRange,
+    table: u64,
+    bits: Bits,
+    in_use: &Times,
+    steps: &mut Steps<L>,
+) -> Result<Option<StalePage>, AllocError>
+    requires ready { AreTimely point.now }
+    requires frame { IsFrame table }
+    requires range { IsPresentRange range }
+    requires least { 2 ≤ range.level }
+    requires most { range.level ≤ 5 }
+    requires home { IsOfHome point.now range }
+    ensures { IfOk result (IsFirst (IsFoundIn point.now range.first
+        (range.first + span range.level) (IsTimeOf (has_time in_use.now))
+        (range.level - 1) table bits)) }
+{
+    if is_settled(point, range, table, bits) {
+        return Ok(None);
+    }
+    let timed = timed_table(point, table, bits, in_use)?;
+    audit_table(point, &timed, range, steps)
+}
+
+/// Whether nothing stale can be found under a table that an entry of a slot references, whenever it was in use. Of no
+/// table it is known yet.
+fn is_settled<L: Ledger>(
+    point: &Point<'_, '_, L>,
+    range: PresentRange,
+    table: u64,
+    bits: Bits,
+) -> bool
+    ensures { result ≡ true
+        → NothingFound point.now range.first (range.first + span range.level)
+        (range.level - 1) table bits }
+{
+    false
+}

@@ -1,0 +1,48 @@
+//! A table, with the times at which it was in use.
+
+ghost use Rattle.std.specs.Prelude.{◌≡◌, IfOk};
+ghost use Rattle.paging_model.specs.Entries.{IsFrame};
+ghost use Rattle.stale_audit.specs.SlotEntries.{IsSplit, IsTimed};
+
+use crate::point::Point;
+use paging_model::entries::Bits;
+use phys_view::Ledger;
+use std::alloc::AllocError;
+use time_sets::Times;
+
+/// A table, and when the processor used it in the PCID.
+#[derive(Drop)]
+pub(crate) struct TimedTable {
+    /// The table's physical address.
+    pub frame: u64,
+    /// The bits that were joined down to the entry that references it.
+    pub bits: Bits,
+    /// When it was in use with NXE 0.
+    pub nxe_clear: Times,
+    /// When it was in use with NXE 1.
+    pub nxe_set: Times,
+    /// Whether changes of a slot of the table are kept.
+    pub has_changes: bool,
+}
+
+/// A table that is in use at some times.
+pub(crate) fn timed_table<L: Ledger>(
+    point: &Point<'_, '_, L>,
+    frame: u64,
+    bits: Bits,
+    in_use: &Times,
+) -> Result<TimedTable, AllocError>
+    requires { IsFrame frame }
+    ensures frame { IfOk result (λ table. table.frame ≡ frame) }
+    ensures bits { IfOk result (λ table. table.bits ≡ bits) }
+    ensures split { IfOk result (λ table. IsSplit point.now in_use.now table) }
+    ensures timed { IfOk result (λ table. IsTimed point.now table) }
+{
+    Ok(TimedTable {
+        frame,
+        bits,
+        nxe_clear: in_use.meet(point.nxe_clear)?,
+        nxe_set: in_use.meet(point.nxe_set)?,
+        has_changes: point.store.has_changes(frame),
+    })
+}

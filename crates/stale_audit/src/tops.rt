@@ -1,0 +1,71 @@
+//! The descent from the roots.
+
+ghost use Rattle.std.specs.Prelude.{IfOk};
+ghost use Rattle.audit_laws.specs.Firsts.{IsFirst};
+ghost use Rattle.audit_laws.specs.Leads.{IsTimeOf};
+ghost use Rattle.paging_model.specs.Entries.{IsFrame};
+ghost use Rattle.paging_model.specs.Walking.{top_level};
+ghost use Rattle.stale_audit.specs.Facts.{AreTimely};
+ghost use Rattle.stale_audit.specs.Tops.{AreFrames, IsFoundFrom, IsFoundFromSome};
+ghost use Rattle.time_sets.specs.Sets.{has_time};
+
+use crate::descent::audit_slot;
+use crate::firsts::first_of_two;
+use crate::point::Point;
+use crate::ranges::{ROOT_BITS, top_range};
+use crate::timed_tables::timed_table;
+use audit_laws::stale_pages::StalePage;
+use phys_view::{Ledger, Steps};
+use std::alloc::AllocError;
+use std::collections::BTreeMap;
+use time_sets::Times;
+
+/// The first finding under some roots, each with the times at which it was in use.
+///
+/// # Errors
+/// If the allocator fails.
+pub fn audit_roots<L: Ledger>(
+    point: &Point<'_, '_, L>,
+    roots: &BTreeMap<u64, Times>,
+    steps: &mut Steps<L>,
+) -> Result<Option<StalePage>, AllocError>
+    requires ready { AreTimely point.now }
+    requires roots { AreFrames roots.now.entries }
+    requires home { IsFrame point.now.home }
+    ensures { IfOk result (IsFirst (IsFoundFromSome point.now
+        (top_level point.now.settings) roots.now.entries)) }
+{
+    let mut first = None;
+    for (root, in_use) in roots {
+        let found = audit_top(point, *root, in_use, steps)?;
+        first = first_of_two(first, found);
+    }
+    Ok(first)
+}
+
+/// The first finding under a root that was in use at some times.
+///
+/// # Errors
+/// If the allocator fails.
+pub fn audit_top<L: Ledger>(
+    point: &Point<'_, '_, L>,
+    root: u64,
+    in_use: &Times,
+    steps: &mut Steps<L>,
+) -> Result<Option<StalePage>, AllocError>
+    requires ready { AreTimely point.now }
+    requires root { IsFrame root }
+    requires home { IsFrame point.now.home }
+    ensures { IfOk result (IsFirst (IsFoundFrom point.now (IsTimeOf (has_time in_use.now))
+        (top_level point.now.settings) root)) }
+{
+    let table = timed_table(point, root, ROOT_BITS, in_use)?;
+    for i in 0..512u64 {
+        let range = top_range(point, i, steps);
+        let found = audit_slot(point, &table, range, steps)?;
+        if found.is_some() {
+            return Ok(found);
+        }
+    }
+    Ok(None)
+}
