@@ -17,6 +17,9 @@ use proc_regs::bit_ranges::{bit, field, in_place, some_bit};
 ///
 /// Where P is 0, no other bit counts. Bits 3 to 6, 9 to 11 and 58:52 never do, nor does PAT (bit 7 at level 1, bit 12
 /// of a large page). G and the protection key are those of a page alone.
+///
+/// It is part of each walk's loop, where most entries are absent.
+#[inline(always)]
 #[tactic(auto, unfolding(paging_model::specs::Entries::entry_of))]
 pub fn decode(level: u8, settings: &Settings, value: u64) -> Entry
     requires least { 1 ≤ level }
@@ -56,10 +59,11 @@ pub fn decode(level: u8, settings: &Settings, value: u64) -> Entry
 pub fn join(above: Bits, below: Bits) -> Bits
     ensures { result ≡ joined_bits above below }
 {
+    // Without branches: this is done for each entry of a walk.
     Bits {
-        write: above.write && below.write,
-        user: above.user && below.user,
-        xd: above.xd || below.xd,
+        write: above.write & below.write,
+        user: above.user & below.user,
+        xd: above.xd | below.xd,
     }
 }
 

@@ -74,7 +74,8 @@ impl Regions {
         if all_end_before(&self.items, region.first) {
             add_last(&mut self.items, region)
         } else {
-            add(&mut self.items, region)
+            // A copy, so that the other branch needs no region in memory.
+            add(&mut self.items, Region { ..region })
         }
     }
 }

@@ -1,1 +1,3 @@
 pub mod Verdicts
+pub mod Digits
+pub mod LineStarts

@@ -1,11 +1,12 @@
 //! The lines of an answer, each with its LF.
 
-ghost use Rattle.std.specs.Prelude.{◌≡◌, ◌<◌, ◌≤◌, [], ◌∷◌, ◌++◌, IfOk, OnOk, Some, length, slice_index_or, string_bytes};
+ghost use Rattle.std.specs.Prelude.{◌≡◌, ◌+◌, ◌<◌, ◌≤◌, [], ◌∷◌, ◌++◌, IfOk, length, slice_index_or};
+ghost use Rattle.std.specs.Fmt.{decimal};
 ghost use Rattle.history_model.specs.declared.answers.Answer.TheVariants.{Listed};
-ghost use Rattle.rights_report.specs.AnswerLines.{answer_lines, area_count_line, area_line, asked_line, finding_count_line, finding_line, finding_lines, no_finding_line, rule_text, too_large_line, verdict_lines};
-ghost use Rattle.rights_report.specs.Characters.{character_in, rights_text};
+ghost use Rattle.rights_report.specs.AnswerLines.{answer_lines, area_count_line, area_line, asked_line, finding_count_line, finding_line, finding_lines, no_finding_line, rule_text, too_large_line, verdict_lines, why_text};
+ghost use Rattle.rights_report.specs.Characters.{character_in, line_end, rights_text};
 
-use crate::lines::text_of;
+use crate::line_buffer::LineBuffer;
 use history_model::answers::{Answer, Why};
 use history_model::caches::Finding;
 use paging_model::access::{Access, Rule};
@@ -13,7 +14,6 @@ use paging_model::access_sets::Rights;
 use paging_model::byte_strings::Text;
 use paging_model::spaces::Area;
 use std::alloc::{AllocError, Global};
-use std::fmt;
 
 /// How many lines an answer has.
 pub fn line_count(answer: &Answer) -> u64
@@ -32,97 +32,121 @@ pub fn line(alloc: Global, answer: &Answer, i: u64) -> Result<Text, AllocError>
     requires { i < length (answer_lines answer.now) }
     ensures { IfOk result (λ text. text ≡ slice_index_or (answer_lines answer.now) i []) }
 {
-    let mut text = String::new(alloc);
-    write_line(&mut text, answer, i)?;
-    Ok(text_of(text))
+    let mut line = LineBuffer::new();
+    write_line(&mut line, answer, i);
+    let mut bytes = Vec::new(alloc);
+    bytes.extend_from_slice(line.bytes())?;
+    Ok(Text::from_vec(bytes))
 }
 
-/// Replaces a text by a line of an answer, by its index. Out of memory, what the text holds isn't said.
-pub fn write_line(text: &mut String, answer: &Answer, i: u64) -> Result<(), AllocError>
+/// Replaces a line by that of an answer, by its index.
+pub fn write_line(line: &mut LineBuffer, answer: &Answer, i: u64)
     requires { i < length (answer_lines answer.now) }
-    ensures { OnOk result (string_bytes text.new ≡ slice_index_or (answer_lines answer.now) i []) }
+    ensures { line.new ≡ slice_index_or (answer_lines answer.now) i [] }
 {
-    text.clear();
+    line.clear();
+    line.put(b"\n");
     match answer {
         Answer::Nothing => unreachable!(),
-        Answer::Asked(asked) => append_asked(text, *asked),
-        Answer::Listed(areas) => append_list_line(text, areas.as_slice(), i),
-        Answer::ListTooLarge => append_too_large(text),
-        Answer::Verdict(findings) => append_verdict_line(text, findings.as_slice(), i),
+        Answer::Asked(asked) => put_asked(line, *asked),
+        Answer::Listed(areas) => put_list_line(line, areas.as_slice(), i),
+        Answer::ListTooLarge => line.put(b"areas too large"),
+        Answer::Verdict(findings) => put_verdict_line(line, findings.as_slice(), i),
     }
 }
 
-/// Appends the answer to an `ask`: the physical address, or why the access is denied.
-fn append_asked(text: &mut String, asked: Result<u64, Why>) -> Result<(), AllocError>
-    ensures { OnOk result (string_bytes text.new ≡ string_bytes text.old ++ asked_line asked) }
+/// Puts the answer to an `ask`: the physical address, or why the access is denied.
+fn put_asked(line: &mut LineBuffer, asked: Result<u64, Why>)
+    requires { line.old ≡ line_end }
+    ensures { line.new ≡ asked_line asked }
 {
     match asked {
-        Ok(address) => writeln!(text, "granted 0x{address:x}"),
-        Err(Why::NotCanonical) => text.push_str("denied not-canonical\n"),
-        Err(Why::Lass) => text.push_str("denied lass\n"),
-        Err(Why::Unknown(level)) => writeln!(text, "denied unknown {level}"),
-        Err(Why::Absent(level)) => writeln!(text, "denied absent {level}"),
-        Err(Why::Reserved(level)) => writeln!(text, "denied reserved {level}"),
-        Err(Why::Denied(rule)) => {
-            text.push_str("denied ")?;
-            text.push_str(rule_name(rule))?;
-            text.push_str("\n")
+        Ok(address) => {
+            line.put_hexadecimal(address);
+            line.put(b"granted ");
+        }
+        Err(why) => {
+            put_why(line, why);
+            line.put(b"denied ");
         }
     }
 }
 
+/// Puts why an access is denied.
+fn put_why(line: &mut LineBuffer, why: Why)
+    requires { length line.old ≤ 1 }
+    ensures value { line.new ≡ why_text why ++ line.old }
+    ensures len { length line.new ≤ 40 }
+{
+    match why {
+        Why::NotCanonical => line.put(b"not-canonical"),
+        Why::Lass => line.put(b"lass"),
+        Why::Unknown(level) => put_level(line, b"unknown ", level),
+        Why::Absent(level) => put_level(line, b"absent ", level),
+        Why::Reserved(level) => put_level(line, b"reserved ", level),
+        Why::Denied(rule) => line.put(rule_name(rule)),
+    }
+}
+
+/// Puts a word and the level that it is about.
+fn put_level(line: &mut LineBuffer, word: &[u8], level: u8)
+    requires room { length line.old ≤ 1 }
+    requires word { length word.now ≤ 10 }
+    ensures value { line.new ≡ (word.now ++ decimal level) ++ line.old }
+    ensures len { length line.new ≤ 40 }
+{
+    line.put_decimal(u64::from(level));
+    line.put(word);
+}
+
 /// The name of a rule that denies an access.
-fn rule_name(rule: Rule) -> &'static str
-    ensures { result.now ≡ rule_text rule }
+fn rule_name(rule: Rule) -> &'static [u8]
+    ensures value { result.now ≡ rule_text rule }
+    ensures len { length result.now ≤ 5 }
 {
     match rule {
-        Rule::User => "user",
-        Rule::Smep => "smep",
-        Rule::Smap => "smap",
-        Rule::Write => "write",
-        Rule::Xd => "xd",
-        Rule::Key => "key",
+        Rule::User => b"user",
+        Rule::Smep => b"smep",
+        Rule::Smap => b"smap",
+        Rule::Write => b"write",
+        Rule::Xd => b"xd",
+        Rule::Key => b"key",
     }
 }
 
-/// Appends a line of a listing, by its index.
-fn append_list_line(text: &mut String, areas: &[Area], i: u64) -> Result<(), AllocError>
-    requires { i ≤ length areas.now }
-    ensures { OnOk result (string_bytes text.new
-        ≡ string_bytes text.old ++ slice_index_or (answer_lines (Listed areas.now)) i []) }
+/// Puts a line of a listing, by its index.
+fn put_list_line(line: &mut LineBuffer, areas: &[Area], i: u64)
+    requires end { line.old ≡ line_end }
+    requires index { i ≤ length areas.now }
+    ensures { line.new ≡ slice_index_or (answer_lines (Listed areas.now)) i [] }
 {
     match i.checked_sub(1) {
-        None => append_area_count(text, areas.len()),
-        Some(index) => append_area(text, &areas[index as usize]),
+        None => put_area_count(line, areas.len()),
+        Some(index) => put_area(line, &areas[index as usize]),
     }
 }
 
-/// Appends the first line of a listing.
-fn append_area_count(text: &mut String, count: usize) -> Result<(), AllocError>
-    ensures { OnOk result (string_bytes text.new ≡ string_bytes text.old ++ area_count_line count) }
+/// Puts the first line of a listing.
+fn put_area_count(line: &mut LineBuffer, count: usize)
+    requires { line.old ≡ line_end }
+    ensures { line.new ≡ area_count_line count }
 {
-    writeln!(text, "areas {count}")
+    line.put_decimal(count as u64);
+    line.put(b"areas ");
 }
 
-/// Appends the answer to a `list` of a space that is too large.
-fn append_too_large(text: &mut String) -> Result<(), AllocError>
-    ensures { OnOk result (string_bytes text.new ≡ string_bytes text.old ++ too_large_line) }
+/// Puts the line of an area.
+fn put_area(line: &mut LineBuffer, area: &Area)
+    requires { line.old ≡ line_end }
+    ensures { line.new ≡ area_line area.now }
 {
-    writeln!(text, "areas too large")
-}
-
-/// Appends the line of an area.
-fn append_area(text: &mut String, area: &Area) -> Result<(), AllocError>
-    ensures { OnOk result (string_bytes text.new ≡ string_bytes text.old ++ area_line area.now) }
-{
-    let Area {
-        first,
-        last,
-        frame,
-        rights,
-    } = *area;
-    let rights = Letters(rights);
-    writeln!(text, "0x{first:x} 0x{last:x} 0x{frame:x} {rights}")
+    line.put(&letters(&area.rights));
+    line.put(b" ");
+    line.put_hexadecimal(area.frame);
+    line.put(b" ");
+    line.put_hexadecimal(area.last);
+    line.put(b" ");
+    line.put_hexadecimal(area.first);
 }
 
 /// How many lines the answer to a point has.
@@ -132,99 +156,85 @@ fn verdict_line_count(findings: &[Finding]) -> u64
     1 + findings.len() as u64
 }
 
-/// Appends a line of the answer to a point, by its index.
+/// Puts a line of the answer to a point, by its index.
 #[tactic(auto, using(crate::proofs::Verdicts::verdict_some))]
-fn append_verdict_line(text: &mut String, findings: &[Finding], i: u64) -> Result<(), AllocError>
-    requires { i < length (verdict_lines findings.now) }
-    ensures { OnOk result (string_bytes text.new
-        ≡ string_bytes text.old ++ slice_index_or (verdict_lines findings.now) i []) }
+fn put_verdict_line(line: &mut LineBuffer, findings: &[Finding], i: u64)
+    requires end { line.old ≡ line_end }
+    requires index { i < length (verdict_lines findings.now) }
+    ensures { line.new ≡ slice_index_or (verdict_lines findings.now) i [] }
 {
     if findings.is_empty() {
-        return append_no_finding(text);
+        return line.put(b"point yes");
     }
-    append_finding_line(text, findings, i)
+    put_finding_line(line, findings, i)
 }
 
-/// Appends a line of a point with findings, by its index.
-fn append_finding_line(text: &mut String, findings: &[Finding], i: u64) -> Result<(), AllocError>
-    requires { i ≤ length findings.now }
-    ensures { OnOk result (string_bytes text.new
-        ≡ string_bytes text.old ++ slice_index_or (finding_lines findings.now) i []) }
+/// Puts a line of a point with findings, by its index.
+fn put_finding_line(line: &mut LineBuffer, findings: &[Finding], i: u64)
+    requires end { line.old ≡ line_end }
+    requires index { i ≤ length findings.now }
+    ensures { line.new ≡ slice_index_or (finding_lines findings.now) i [] }
 {
     match i.checked_sub(1) {
-        None => append_finding_count(text, findings.len()),
-        Some(index) => append_finding(text, &findings[index as usize]),
+        None => put_finding_count(line, findings.len()),
+        Some(index) => put_finding(line, &findings[index as usize]),
     }
 }
 
-/// Appends the answer to a point without findings.
-fn append_no_finding(text: &mut String) -> Result<(), AllocError>
-    ensures { OnOk result (string_bytes text.new ≡ string_bytes text.old ++ no_finding_line) }
+/// Puts the first line of a point with findings.
+fn put_finding_count(line: &mut LineBuffer, count: usize)
+    requires { line.old ≡ line_end }
+    ensures { line.new ≡ finding_count_line count }
 {
-    writeln!(text, "point yes")
+    line.put_decimal(count as u64);
+    line.put(b"point no ");
 }
 
-/// Appends the first line of a point with findings.
-fn append_finding_count(text: &mut String, count: usize) -> Result<(), AllocError>
-    ensures { OnOk result (string_bytes text.new
-        ≡ string_bytes text.old ++ finding_count_line count) }
+/// Puts the line of a finding.
+fn put_finding(line: &mut LineBuffer, finding: &Finding)
+    requires { line.old ≡ line_end }
+    ensures { line.new ≡ finding_line finding.now }
 {
-    writeln!(text, "point no {count}")
+    line.put(&letters(&finding.excess));
+    line.put(b" ");
+    line.put_hexadecimal(finding.frame);
+    line.put(b" frame ");
+    line.put_hexadecimal(finding.page);
+    line.put(b" page ");
+    line.put_decimal(u64::from(finding.pcid));
+    line.put(b" pcid ");
+    line.put_decimal(u64::from(finding.cpu));
+    line.put(b"cpu ");
 }
 
-/// Appends the line of a finding.
-fn append_finding(text: &mut String, finding: &Finding) -> Result<(), AllocError>
-    ensures { OnOk result (string_bytes text.new
-        ≡ string_bytes text.old ++ finding_line finding.now) }
+/// A set of accesses as eight characters: the letter of each access that is in the set, else `-`.
+#[inline(always)]
+fn letters(rights: &Rights) -> [u8; 8]
+    ensures { result ≡ rights_text rights.now }
 {
-    let Finding {
-        cpu,
-        pcid,
-        page,
-        frame,
-        excess,
-    } = *finding;
-    let excess = Letters(excess);
-    writeln!(
-        text,
-        "cpu {cpu} pcid {pcid} page 0x{page:x} frame 0x{frame:x} {excess}"
-    )
-}
-
-/// A set of accesses, printed as eight characters: the letter of each access that is in the set, else `-`.
-#[derive(Clone, Copy)]
-struct Letters(Rights);
-
-impl fmt::Display for Letters {
-    ghost output = { λ letters. Some (rights_text letters.0) };
-
-    fn fmt<W: fmt::Write>(&self, f: &mut fmt::Formatter<W>) -> fmt::Result {
-        let rights = &self.0;
-        let (ur, uw, ux) = (
-            letter(rights, Access::Ur),
-            letter(rights, Access::Uw),
-            letter(rights, Access::Ux),
-        );
-        let (sr, sw, sx) = (
-            letter(rights, Access::Sr),
-            letter(rights, Access::Sw),
-            letter(rights, Access::Sx),
-        );
-        let (ir, iw) = (letter(rights, Access::Ir), letter(rights, Access::Iw));
-        write!(f, "{ur}{uw}{ux}{sr}{sw}{sx}{ir}{iw}")
-    }
+    [
+        letter(rights, Access::Ur),
+        letter(rights, Access::Uw),
+        letter(rights, Access::Ux),
+        letter(rights, Access::Sr),
+        letter(rights, Access::Sw),
+        letter(rights, Access::Sx),
+        letter(rights, Access::Ir),
+        letter(rights, Access::Iw),
+    ]
 }
 
 /// The letter of an access that is in the set, else `-`.
-fn letter(rights: &Rights, access: Access) -> &'static str
-    ensures { result.now ≡ character_in rights.now access ∷ [] }
+#[inline(always)]
+fn letter(rights: &Rights, access: Access) -> u8
+    ensures { result ≡ character_in rights.now access }
 {
     if !rights.has(access) {
-        return "-";
+        return b'-';
     }
     match access {
-        Access::Ur | Access::Sr | Access::Ir => "r",
-        Access::Uw | Access::Sw | Access::Iw => "w",
-        Access::Ux | Access::Sx => "x",
+        Access::Ur | Access::Sr | Access::Ir => b'r',
+        Access::Uw | Access::Sw | Access::Iw => b'w',
+        Access::Ux | Access::Sx => b'x',
     }
 }

@@ -7,11 +7,13 @@
 mod answers;
 pub mod examples;
 mod fixed;
+mod line_buffer;
 mod lines;
 mod refusals;
 
 pub use answers::{line, line_count, write_line};
 pub use fixed::{core_too_long, log_too_long, usage};
+pub use line_buffer::LineBuffer;
 pub use refusals::{Cause, core_refusal, log_refusal};
 
 #[cfg(test)]

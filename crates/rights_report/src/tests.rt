@@ -1,4 +1,4 @@
-//! Each error prints itself as the program's line has it, and one text takes the lines of one answer after another.
+//! Each error prints itself as the program's line has it, and one buffer takes the lines of one answer after another.
 
 use super::*;
 use elf_core::{CoreFault, NoteRule};
@@ -98,8 +98,8 @@ fn lines_are_refused_in_the_words_of_their_faults(rt: HostRuntime) -> Result<(),
 }
 
 #[test]
-fn a_text_holds_the_last_line_alone(rt: HostRuntime) -> Result<(), Fail> {
-    let mut text = String::from_str(rt.alloc(), "longer than the first line of the log")?;
+fn a_buffer_holds_the_last_line_alone(rt: HostRuntime) -> Result<(), Fail> {
+    let mut buffer = LineBuffer::new();
     let granted = Answer::Asked(Ok(0x6234));
     let denied = Answer::Asked(Err(Why::Denied(Rule::Key)));
     let listed = two_areas(rt.alloc())?;
@@ -125,7 +125,7 @@ fn a_text_holds_the_last_line_alone(rt: HostRuntime) -> Result<(), Fail> {
         (&right, 0, "point yes\n"),
     ];
     for (answer, i, expected) in lines {
-        writes(&rt, rt.alloc(), &mut text, answer, i, expected)?;
+        writes(&rt, rt.alloc(), &mut buffer, answer, i, expected)?;
     }
     Ok(())
 }
@@ -166,14 +166,14 @@ fn one_finding(alloc: Global) -> Result<Answer, AllocError> {
 fn writes(
     rt: &impl Abort,
     alloc: Global,
-    text: &mut String,
+    buffer: &mut LineBuffer,
     answer: &Answer,
     i: u64,
     expected: &str,
 ) -> Result<(), Fail> {
     assert!(rt; i < line_count(answer));
-    write_line(text, answer, i)?;
-    assert_eq!(rt; text.as_str(), expected);
+    write_line(buffer, answer, i);
+    assert_eq!(rt; buffer.bytes(), expected.as_bytes());
     let fresh = line(alloc, answer, i)?;
     assert_eq!(rt; fresh.as_slice(), expected.as_bytes());
     Ok(())

@@ -141,11 +141,13 @@ fn walk_pages<L: Ledger>(
     ensures uses { space.new.uses ≡ space.old.uses }
     ensures cost { steps.new ≡ steps.old + count }
 {
+    // A copy, which isn't read anew for each page.
+    let settings = *settings;
     let entries = view.entries(table.frame + ENTRY_SIZE * from as u64, count, steps);
     for k in 0..count {
         let value = entries.get(k);
         let first = first_of(1, table.prefix, from + k);
-        walk_page(settings, first, table.bits, value, space)?;
+        walk_page(&settings, first, table.bits, value, space)?;
     }
     Ok(())
 }
