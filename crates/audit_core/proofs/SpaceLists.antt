@@ -10,16 +10,18 @@ use Rattle.history_model.specs.declared.answers.Answer.{Answer}
 use Rattle.history_model.specs.declared.events.Event.TheVariants as event
 use Rattle.phys_view.specs.Seen.{memory_of}
 use Rattle.space_map.specs.BuiltSpaces.{BuildTakes}
+use Rattle.audit_core.specs.HostLists.{processors_of}
 use Rattle.audit_core.specs.Standing.{Holding, HasAllOf}
 use Rattle.audit_core.specs.Stepping.{AcceptsEvent, TakesSteps}
+use Rattle.audit_core.proofs.NotingLaws.{hosts_stay}
 
-regs-is : (holding : Holding) (moment : History) (cpu : ℕ) (known : Regs) → HasAllOf holding moment → regs_in holding.processors cpu ≡ Some known → regs moment cpu ≡ Some known
+regs-is : (holding : Holding) (moment : History) (cpu : ℕ) (known : Regs) → HasAllOf holding moment → regs_in (processors_of holding.hosts) cpu ≡ Some known → regs moment cpu ≡ Some known
 regs-is holding moment cpu known has found = rw has.processors_are found
 
-list-unrefused : (holding : Holding) (moment : History) (cpu : ℕ) (known : Regs) → HasAllOf holding moment → regs_in holding.processors cpu ≡ Some known → refusal moment (event.List cpu) ≡ None
+list-unrefused : (holding : Holding) (moment : History) (cpu : ℕ) (known : Regs) → HasAllOf holding moment → regs_in (processors_of holding.hosts) cpu ≡ Some known → refusal moment (event.List cpu) ≡ None
 list-unrefused holding moment cpu known has found = rw (regs-is holding moment cpu known has found) refl
 
-list-answered : (holding : Holding) (moment : History) (cpu : ℕ) (known : Regs) (answer : Answer) → HasAllOf holding moment → regs_in holding.processors cpu ≡ Some known
+list-answered : (holding : Holding) (moment : History) (cpu : ℕ) (known : Regs) (answer : Answer) → HasAllOf holding moment → regs_in (processors_of holding.hosts) cpu ≡ Some known
     → AnswersList (memory_of holding.seen) holding.machine known answer → Answers moment (event.List cpu) answer
 list-answered holding moment cpu known answer has found list =
     (known, regs-is holding moment cpu known has found, rw (has.memory_is, has.machine_is) list)
@@ -34,9 +36,10 @@ list-stands holding moment cpu has = record {
   stated_is = has.stated_is;
   machine_is = has.machine_is;
   processors_are = has.processors_are;
+  hosts_are = hosts_stay moment holding.hosts (event.List cpu) has.hosts_are (λ n. refl) (λ n. refl);
 }
 
-pub list-accepted : (holding : Holding) (cpu : ℕ) (known : Regs) (answer : Answer) → regs_in holding.processors cpu ≡ Some known
+pub list-accepted : (holding : Holding) (cpu : ℕ) (known : Regs) (answer : Answer) → regs_in (processors_of holding.hosts) cpu ≡ Some known
     → AnswersList (memory_of holding.seen) holding.machine known answer
     → AcceptsEvent HasAllOf holding (record holding { happened = holding.happened + 1 }) (event.List cpu) answer
 list-accepted holding cpu known answer found list = record {
@@ -45,7 +48,7 @@ list-accepted holding cpu known answer found list = record {
   stands = λ moment has. list-stands holding moment cpu has;
 }
 
-pub list-steps : (holding : Holding) (cpu : ℕ) (known : Regs) (old new : ℕ) → regs_in holding.processors cpu ≡ Some known
+pub list-steps : (holding : Holding) (cpu : ℕ) (known : Regs) (old new : ℕ) → regs_in (processors_of holding.hosts) cpu ≡ Some known
     → BuildTakes (memory_of holding.seen) (space_of holding.machine known) old new → (moment : History) → HasAllOf holding moment → TakesSteps moment (event.List cpu) old new
 list-steps holding cpu known old new found takes moment has = record {
   steps = 512 * takes.uses;

@@ -1,3 +1,4 @@
 pub mod ProcessorNumbers
+pub mod HostLists
 pub mod Standing
 pub mod Stepping

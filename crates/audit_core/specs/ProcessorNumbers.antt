@@ -5,7 +5,7 @@ use Rattle.paging_model.specs.declared.registers.Machine.{Machine}
 use Rattle.paging_model.specs.declared.registers.Processor.{Processor}
 use Rattle.paging_model.specs.declared.registers.RegChange.{RegChange}
 use Rattle.history_model.specs.History.{insert_processor, regs_in}
-use Rattle.history_model.specs.Refusals.{if_illegal, of_known}
+use Rattle.history_model.specs.Refusals.{if_illegal, invpcid_refusal, of_known}
 use Rattle.history_model.specs.declared.faults.StepFault.{StepFault}
 
 -- the processor has a greater number
@@ -27,3 +27,8 @@ HaveNewNumbers before (one ∷ rest) =
 abbrev pub set_refusal : Machine → List Processor → ℕ → RegChange → Option StepFault
 set_refusal machine processors cpu change =
     of_known cpu (λ known. if_illegal (change_of machine change known)) (regs_in processors cpu)
+
+-- why INVPCID by a processor is refused
+abbrev pub known_invpcid_refusal : List Processor → ℕ → ℕ → ℕ → ℕ → Option StepFault
+known_invpcid_refusal processors cpu kind pcid address =
+    of_known cpu (λ known. invpcid_refusal kind pcid address known) (regs_in processors cpu)

@@ -1,12 +1,13 @@
 -- What a session stands for: the moment that a core and a list of accepted events lead to.
 use Rattle.std.specs.Prelude.{◌≡◌, ℕ, Bool, false, List, []}
 use Rattle.paging_model.specs.declared.registers.Machine.{Machine}
-use Rattle.paging_model.specs.declared.registers.Processor.{Processor}
+use Rattle.cache_rules.specs.Hosts.{Keeping}
 use Rattle.elf_core.specs.declared.core_file.Core.{Core}
 use Rattle.phys_view.specs.Seen.{Seen, memory_of, written_pages}
 use Rattle.elf_core.specs.Cores.{IsConsistent}
 use Rattle.history_model.specs.History.{Start, History, begun, start_of as beginning, memory, machine, pages, insert_processors, processors, time}
 use Rattle.history_model.specs.Refusals.{LeadsTo}
+use Rattle.audit_core.specs.HostLists.{AreHostsOf, processors_of}
 
 -- what a core states
 abbrev pub core_start : Core → Start
@@ -18,16 +19,17 @@ core_start core = record {
 }
 
 -- what a session holds: whether it is poisoned (memory ran out), the number of events so far, known memory, the machine
--- and whether it is stated, and the processors in ascending order of their numbers
+-- and whether it is stated, and what is kept of each processor, in ascending order of their numbers
 pub record Holding : Type 0 where
   pub poisoned : Bool
   pub happened : ℕ
   pub seen : Seen
   pub stated : Bool
   pub machine : Machine
-  pub processors : List Processor
+  pub hosts : List Keeping
 
--- a session that isn't poisoned has all that a moment has: its memory too, and the pages that were written to
+-- a session that isn't poisoned has all that a moment has: its memory too, the pages that were written to, and the past of
+-- each processor
 pub record HasAllOf (holding : Holding) (moment : History) : Type 0 where
   pub unpoisoned : holding.poisoned ≡ false
   pub time_is : time moment ≡ holding.happened
@@ -36,7 +38,8 @@ pub record HasAllOf (holding : Holding) (moment : History) : Type 0 where
   pub memory_is : memory moment ≡ memory_of holding.seen
   pub stated_is : (beginning moment).stated ≡ holding.stated
   pub machine_is : machine moment ≡ holding.machine
-  pub processors_are : processors moment ≡ holding.processors
+  pub processors_are : processors moment ≡ processors_of holding.hosts
+  pub hosts_are : AreHostsOf moment holding.hosts
 
 -- a session stands for a core and a list of accepted events: for the moment that they lead to
 pub record StandsFor (holding : Holding) (moment : History) : Type 0 where

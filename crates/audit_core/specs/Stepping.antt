@@ -13,11 +13,14 @@ use Rattle.history_model.specs.declared.events.Event.TheVariants as event
 use Rattle.history_model.specs.declared.faults.StepFault.{StepFault}
 use Rattle.audit_core.specs.Standing.{Holding}
 
--- memory may run out at the event: the list of processors grows with it, a page that is written to needs a block, or a
--- space is built
+-- memory may run out at the event: the list of processors grows with it, or the past of one, a page that is written to
+-- needs a block, or a space is built
 abbrev pub may_run_out : Event → Bool
 may_run_out (event.Cpu _ _) = true
 may_run_out (event.Write _ _) = true
+may_run_out (event.Set _ _) = true
+may_run_out (event.Invlpg _ _) = true
+may_run_out (event.Invpcid _ _ _ _) = true
 may_run_out (event.List _) = true
 may_run_out _ = false
 

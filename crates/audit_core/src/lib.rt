@@ -6,8 +6,8 @@
 #![tactic(auto)]
 
 mod asking;
+mod hosts;
 mod listing;
-mod processors;
 mod session;
 
 pub use session::Session;

@@ -5,10 +5,11 @@ ghost use Rattle.elf_core.specs.Cores.{IsConsistent};
 ghost use Rattle.history_model.specs.History.{History, begun, regs_in};
 ghost use Rattle.history_model.specs.Refusals.{cpu_refusal};
 ghost use Rattle.phys_view.specs.Seen.{written_pages};
+ghost use Rattle.audit_core.specs.HostLists.{processors_of};
 ghost use Rattle.audit_core.specs.Standing.{HasAllOf, StandsFor, core_start};
 ghost use Rattle.audit_core.specs.Stepping.{AcceptsEvent, RefusesEvent, RunsOutOfMemory, TakesSteps, refused_step_limit};
 
-use crate::processors::KnownProcessors;
+use crate::hosts::Hosts;
 use crate::{asking, listing};
 use block_pool::Pool;
 use elf_core::Core;
@@ -17,7 +18,7 @@ use history_model::events::Event;
 use history_model::faults::StepFault;
 use paging_model::access::Access;
 use paging_model::byte_strings::Payload;
-use paging_model::registers::{Machine, PROCESSOR_LIMIT, Processor, RegChange, Regs};
+use paging_model::registers::{Machine, PROCESSOR_LIMIT, RegChange, Regs};
 use phys_view::{Ledger, Steps, View, WriteFault};
 use proc_regs::check;
 use std::alloc::{AllocError, Global};
@@ -34,13 +35,14 @@ pub struct Session<'a, L: Ledger> {
     pool: Pool,
     machine: Machine,
     stated: bool,
-    processors: KnownProcessors,
+    hosts: Hosts,
     happened: u32,
     poisoned: bool,
 }
 
 impl<'a, L: Ledger> Model for Session<'a, L> {
-    ghost use Rattle.std.specs.Prelude.{◌≡◌, length};
+    ghost use Rattle.std.specs.Prelude.{◌≡◌, ◌+◌, length};
+    ghost use Rattle.audit_core.specs.HostLists.{AreBefore};
     ghost use Rattle.audit_core.specs.Standing.{Holding};
 
     ghost Value = { Holding };
@@ -51,11 +53,12 @@ impl<'a, L: Ledger> Model for Session<'a, L> {
       seen = s.view;
       stated = s.stated;
       machine = s.machine;
-      processors = s.processors;
+      hosts = s.hosts;
     } };
 
-    // Each written page has one block of the pool.
-    ghost invariant = { λ s. s.pool.live ≡ length s.view.written };
+    // Each written page has one block of the pool, and nothing was noted at a time to come.
+    ghost invariant = { λ s. (s.pool.live ≡ length s.view.written)
+        × AreBefore (s.happened + 1) s.hosts };
 }
 
 impl<'a, L: Ledger> Session<'a, L> {
@@ -68,14 +71,14 @@ impl<'a, L: Ledger> Session<'a, L> {
         requires { IsConsistent core }
         ensures { IfOk result (λ session. StandsFor session (begun (core_start core.entry))) }
     {
-        let processors = KnownProcessors::from_slice(alloc, core.processors.as_slice())?;
+        let hosts = Hosts::from_slice(alloc, &core.machine, core.processors.as_slice())?;
         Ok(Session {
             alloc,
             view: View::new(alloc, core.segments),
             pool: Pool::new(alloc),
             machine: core.machine,
             stated: core.stated,
-            processors,
+            hosts,
             happened: 0,
             poisoned: false,
         })
@@ -90,9 +93,9 @@ impl<'a, L: Ledger> Session<'a, L> {
 
     /// How many processors there are.
     pub fn processors(&self) -> u64
-        ensures { result ≡ length self.now.processors }
+        ensures { result ≡ length self.now.hosts }
     {
-        self.processors.len() as u64
+        self.hosts.len() as u64
     }
 
     /// How many blocks of memory it holds: one for each page that was written to.
@@ -156,6 +159,13 @@ impl<'a, L: Ledger> Session<'a, L> {
             Event::Cpu(number, regs) => self.state_processor(*number, *regs),
             Event::Write { at, bytes } => self.write(*at, bytes),
             Event::Set { cpu, change } => self.set_register(*cpu, *change),
+            Event::Invlpg { cpu, address } => self.invlpg(*cpu, *address),
+            Event::Invpcid {
+                cpu,
+                kind,
+                pcid,
+                address,
+            } => self.invpcid(*cpu, *kind, *pcid, *address),
             Event::Ask {
                 cpu,
                 access,
@@ -175,7 +185,7 @@ impl<'a, L: Ledger> Session<'a, L> {
         ensures never_memory { result ≢ Err StepFault.Memory }
         ensures time { self.new.happened ≡ self.old.happened }
     {
-        if self.happened > 0 || self.stated || self.processors.len() > 0 {
+        if self.happened > 0 || self.stated || self.hosts.len() > 0 {
             return Err(StepFault::LateState);
         }
         self.machine = machine;
@@ -194,10 +204,10 @@ impl<'a, L: Ledger> Session<'a, L> {
         ensures time { self.new.happened ≡ self.old.happened }
     {
         self.check_processor(number, &regs)?;
-        if self.processors.insert(Processor { number, regs }).is_err() {
+        let Ok(()) = self.hosts.state(&self.machine, number, regs) else {
             self.poisoned = true;
             return Err(StepFault::Memory);
-        }
+        };
         Ok(Answer::Nothing)
     }
 
@@ -212,21 +222,22 @@ impl<'a, L: Ledger> Session<'a, L> {
         ensures refused { (moment : History) → HasAllOf self.now moment
             → IfErr result (λ fault. cpu_refusal moment number regs.now ≡ Some fault) }
         ensures never_memory { result ≢ Err StepFault.Memory }
-        ensures new { OnOk result (regs_in self.now.processors number ≡ None) }
+        ensures new { OnOk result (regs_in (processors_of self.now.hosts) number ≡ None) }
     {
         if self.happened > 0 {
             return Err(StepFault::LateState);
         }
-        if self.processors.regs(number).is_some() {
+        if self.hosts.regs(number).is_some() {
             return Err(StepFault::DoubleProcessor(number));
         }
-        if self.processors.len() >= PROCESSOR_LIMIT {
+        if self.hosts.len() >= PROCESSOR_LIMIT {
             return Err(StepFault::TooManyProcessors);
         }
         check(&self.machine, regs).map_err(StepFault::Illegal)
     }
 
     /// Writes bytes to memory.
+    #[tactic(auto, using(crate::proofs::NotingLaws::hosts_after_write, crate::proofs::HostLaws::hosts_later))]
     fn write(&mut self, at: u64, bytes: &Payload) -> Result<Answer, StepFault>
         requires { self.old.happened + 1 < 2 ^ 32 }
         ensures accepted { IfOk result
@@ -255,17 +266,51 @@ impl<'a, L: Ledger> Session<'a, L> {
         requires { self.old.happened + 1 < 2 ^ 32 }
         ensures accepted { IfOk result
             (AcceptsEvent HasAllOf self.old self.new (Event.Set cpu change)) }
-        ensures refused { IfErr result
-            (RefusesEvent HasAllOf self.old self.new (Event.Set cpu change)) }
-        ensures never_memory { result ≢ Err StepFault.Memory }
+        ensures refused { IfErr result (λ fault. fault ≢ StepFault.Memory
+            → RefusesEvent HasAllOf self.old self.new (Event.Set cpu change) fault) }
+        ensures out_of_memory { result ≡ Err StepFault.Memory
+            → RunsOutOfMemory HasAllOf self.old self.new (Event.Set cpu change) }
         ensures time { self.new.happened ≤ self.old.happened + 1 }
     {
-        self.processors.set(&self.machine, cpu, change)?;
-        self.happened += 1;
-        Ok(Answer::Nothing)
+        let now = self.happened + 1;
+        let noted = self.hosts.set(&self.machine, now, cpu, change);
+        go_on(noted, &mut self.happened, &mut self.poisoned)
+    }
+
+    /// A processor executes INVLPG.
+    fn invlpg(&mut self, cpu: u32, address: u64) -> Result<Answer, StepFault>
+        requires { self.old.happened + 1 < 2 ^ 32 }
+        ensures accepted { IfOk result
+            (AcceptsEvent HasAllOf self.old self.new (Event.Invlpg cpu address)) }
+        ensures refused { IfErr result (λ fault. fault ≢ StepFault.Memory
+            → RefusesEvent HasAllOf self.old self.new (Event.Invlpg cpu address) fault) }
+        ensures out_of_memory { result ≡ Err StepFault.Memory
+            → RunsOutOfMemory HasAllOf self.old self.new (Event.Invlpg cpu address) }
+        ensures time { self.new.happened ≤ self.old.happened + 1 }
+    {
+        let now = self.happened + 1;
+        let noted = self.hosts.invlpg(now, cpu, address);
+        go_on(noted, &mut self.happened, &mut self.poisoned)
+    }
+
+    /// A processor executes INVPCID.
+    fn invpcid(&mut self, cpu: u32, kind: u64, pcid: u64, address: u64) -> Result<Answer, StepFault>
+        requires { self.old.happened + 1 < 2 ^ 32 }
+        ensures accepted { IfOk result
+            (AcceptsEvent HasAllOf self.old self.new (Event.Invpcid cpu kind pcid address)) }
+        ensures refused { IfErr result (λ fault. fault ≢ StepFault.Memory
+            → RefusesEvent HasAllOf self.old self.new (Event.Invpcid cpu kind pcid address) fault) }
+        ensures out_of_memory { result ≡ Err StepFault.Memory
+            → RunsOutOfMemory HasAllOf self.old self.new (Event.Invpcid cpu kind pcid address) }
+        ensures time { self.new.happened ≤ self.old.happened + 1 }
+    {
+        let now = self.happened + 1;
+        let noted = self.hosts.invpcid(now, cpu, kind, pcid, address);
+        go_on(noted, &mut self.happened, &mut self.poisoned)
     }
 
     /// Answers whether a processor is granted an access.
+    #[tactic(auto, using(crate::proofs::NotingLaws::hosts_after_ask, crate::proofs::HostLaws::hosts_later))]
     fn ask(
         &mut self,
         cpu: u32,
@@ -283,16 +328,14 @@ impl<'a, L: Ledger> Session<'a, L> {
         ensures cost { steps.new ≤ steps.old + 5 }
         ensures refused_cost { OnErr result (steps.new ≡ steps.old) }
     {
-        let regs = self
-            .processors
-            .regs(cpu)
-            .ok_or(StepFault::NoProcessor(cpu))?;
+        let regs = self.hosts.regs(cpu).ok_or(StepFault::NoProcessor(cpu))?;
         let answer = asking::ask(&self.view, &self.machine, regs, access, pointer, steps);
         self.happened += 1;
         Ok(Answer::Asked(answer))
     }
 
     /// Lists what a processor's space grants.
+    #[tactic(auto, using(crate::proofs::HostLaws::hosts_later))]
     fn list(&mut self, cpu: u32, steps: &mut Steps<L>) -> Result<Answer, StepFault>
         requires { self.old.happened + 1 < 2 ^ 32 }
         ensures accepted { IfOk result (AcceptsEvent HasAllOf self.old self.new (Event.List cpu)) }
@@ -309,15 +352,39 @@ impl<'a, L: Ledger> Session<'a, L> {
         ensures refused_cost { IfErr result (λ fault. fault ≢ StepFault.Memory
             → steps.new ≡ steps.old) }
     {
-        let regs = self
-            .processors
-            .regs(cpu)
-            .ok_or(StepFault::NoProcessor(cpu))?;
+        let regs = self.hosts.regs(cpu).ok_or(StepFault::NoProcessor(cpu))?;
         let Ok(answer) = listing::list(self.alloc, &self.view, &self.machine, regs, steps) else {
             self.poisoned = true;
             return Err(StepFault::Memory);
         };
         self.happened += 1;
         Ok(answer)
+    }
+}
+
+/// Counts an event that was carried out and has no answer. Where memory ran out, the session is poisoned; else a fault
+/// changes nothing.
+fn go_on(
+    done: Result<(), StepFault>,
+    happened: &mut u32,
+    poisoned: &mut bool,
+) -> Result<Answer, StepFault>
+    requires { happened.old + 1 < 2 ^ 32 }
+    ensures answer { OnOk done (result ≡ Ok Answer.Nothing) }
+    ensures fault { IfErr done (λ fault. result ≡ Err fault) }
+    ensures counted { OnOk done (happened.new ≡ happened.old + 1) }
+    ensures not_counted { OnErr done (happened.new ≡ happened.old) }
+    ensures poisoned { done ≡ Err StepFault.Memory → IsTrue poisoned.new }
+    ensures stays { done ≢ Err StepFault.Memory → poisoned.new ≡ poisoned.old }
+{
+    match done {
+        Ok(()) => {
+            *happened += 1;
+            Ok(Answer::Nothing)
+        }
+        Err(fault) => {
+            *poisoned |= fault == StepFault::Memory;
+            Err(fault)
+        }
     }
 }

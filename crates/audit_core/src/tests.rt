@@ -3,8 +3,10 @@
 
 ghost use Rattle.std.specs.Prelude.{◌≤◌, length, ⊤};
 
+mod random_lists;
+
 use super::*;
-use elf_core::{Core, Processors, Segment, Segments};
+use elf_core::{Core, Processors, Segment, Segments, parse};
 use history_model::answers::{Answer, Why};
 use history_model::events::Event;
 use history_model::faults::StepFault;
@@ -16,6 +18,7 @@ use paging_model::spaces::Area;
 use phys_view::{Ledger, Reader, Steps, answer_and_steps};
 use std::alloc::{AllocError, Global};
 use std::test::Fail;
+use test_support::cores::example_core;
 use test_support::registers::REGS;
 
 /// The first entry of the table at 0x1000, which references the table at 0x2000.
@@ -70,28 +73,24 @@ const fn ask(cpu: u32, access: Access, pointer: u64) -> Event {
 }
 
 /// What comes of an event.
-#[derive(Clone, Copy, Debug, PartialEq)]
+#[derive(Debug, Drop, PartialEq)]
 enum Said {
     Nothing,
     Asked(Result<u64, Why>),
-    /// The only area of a listing.
-    Listed(Area),
+    Listed(Vec<Area>),
     Other,
     Refused(StepFault),
 }
 
 /// What comes of a step.
-fn said_of(step: Result<Answer, StepFault>) -> Said {
-    match step {
+fn said_of(alloc: Global, step: &Result<Answer, StepFault>) -> Result<Said, AllocError> {
+    Ok(match step {
         Ok(Answer::Nothing) => Said::Nothing,
-        Ok(Answer::Asked(asked)) => Said::Asked(asked),
-        Ok(Answer::Listed(areas)) => match areas.as_slice() {
-            [area] => Said::Listed(*area),
-            _ => Said::Other,
-        },
+        Ok(Answer::Asked(asked)) => Said::Asked(*asked),
+        Ok(Answer::Listed(areas)) => Said::Listed(areas.as_slice().to_vec(alloc)?),
         Ok(_) => Said::Other,
-        Err(fault) => Said::Refused(fault),
-    }
+        Err(fault) => Said::Refused(*fault),
+    })
 }
 
 /// What came of events, and how many blocks the session held after each; then its time and number of processors.
@@ -103,13 +102,13 @@ struct Summary {
     processors: u64,
 }
 
-/// A session over the two tables.
-fn start<'a, L: Ledger>(
+/// The two tables in memory.
+fn two_tables<'a>(
     alloc: Global,
     top: &'a [u8; 8],
     large: &'a [u8; 16],
-) -> Result<Session<'a, L>, AllocError> {
-    let items = vec![in alloc;
+) -> Result<Segments<'a>, AllocError> {
+    Ok(Segments::from_vec(vec![in alloc;
         Segment {
             phys: 0x1000,
             bytes: top
@@ -118,19 +117,13 @@ fn start<'a, L: Ledger>(
             phys: 0x2000,
             bytes: large
         },
-    ]?;
-    let core = Core {
-        segments: Segments::from_vec(items),
-        stated: false,
-        machine: Machine::new(52, true),
-        processors: Processors::new(alloc),
-    };
-    Session::start(alloc, core)
+    ]?))
 }
 
-/// Events that a new session steps through.
+/// Events that a new session over these segments steps through.
 struct Steppings<'a> {
     alloc: Global,
+    segments: Segments<'a>,
     events: &'a [Event],
 }
 
@@ -140,13 +133,23 @@ impl<'a> Reader for Steppings<'a> {
     ghost gives = { λ _ _. ⊤ };
 
     fn read<L: Ledger>(self, steps: &mut Steps<L>) -> Result<Summary, AllocError> {
-        let Steppings { alloc, events } = self;
-        let mut session = start(alloc, &TOP, &LARGE)?;
+        let Steppings {
+            alloc,
+            segments,
+            events,
+        } = self;
+        let core = Core {
+            segments,
+            stated: false,
+            machine: Machine::new(52, true),
+            processors: Processors::new(alloc),
+        };
+        let mut session: Session<'_, L> = Session::start(alloc, core)?;
         let mut said = Vec::new(alloc);
         let mut blocks = Vec::new(alloc);
         for event in events {
             if session.now() < u32::MAX {
-                said.push(said_of(session.step(event, steps)))?;
+                said.push(said_of(alloc, &session.step(event, steps))?)?;
                 blocks.push(session.live_blocks())?;
             }
         }
@@ -160,9 +163,22 @@ impl<'a> Reader for Steppings<'a> {
     }
 }
 
-/// What comes of events, one after the other, and the steps that they took.
+/// What comes of events over the two tables, one after the other, and the steps that they took.
 fn summary_of(alloc: Global, events: &[Event]) -> Result<(Summary, u64), AllocError> {
-    let (summary, steps) = answer_and_steps(Steppings { alloc, events });
+    summary_over(alloc, two_tables(alloc, &TOP, &LARGE)?, events)
+}
+
+/// The same over any segments.
+fn summary_over(
+    alloc: Global,
+    segments: Segments<'_>,
+    events: &[Event],
+) -> Result<(Summary, u64), AllocError> {
+    let (summary, steps) = answer_and_steps(Steppings {
+        alloc,
+        segments,
+        events,
+    });
     Ok((summary?, steps))
 }
 
@@ -291,6 +307,18 @@ fn writes_are_seen_by_later_asks(rt: HostRuntime) -> Result<(), Fail> {
         [0, 0, 0, 1, 1, 1, 1, 2, 2, 2, 2, 2].as_slice()
     );
     assert_eq!(rt; (summary.now, summary.processors, steps), (8, 2, 10));
+    // Two entries of one page of the example core.
+    let file = example_core(alloc)?;
+    let events = [
+        write(alloc, 0x4000, &[0x07, 0x60, 0, 0, 0, 0, 0, 0])?,
+        write(alloc, 0x4008, &[0x07, 0x70, 0, 0, 0, 0, 0, 0])?,
+    ];
+    let (summary, _) = summary_over(alloc, parse(alloc, &file)?.segments, &events)?;
+    assert_eq!(rt;
+        summary.said.as_slice(),
+        [Said::Nothing, Said::Nothing].as_slice()
+    );
+    assert_eq!(rt; summary.blocks.as_slice(), [1, 1].as_slice());
     Ok(())
 }
 
@@ -307,6 +335,15 @@ fn lists_go_by_what_was_written(rt: HostRuntime) -> Result<(), Fail> {
     let both = Area {
         last: 0x7fff_ffff,
         ..first
+    };
+    let users = Area {
+        rights: Rights::of_number(0b1111_1111),
+        ..first
+    };
+    let after_users = Area {
+        first: 0x4000_0000,
+        frame: 0x8000_0000,
+        ..both
     };
     let (summary, steps) = summary_of(
         alloc,
@@ -325,13 +362,13 @@ fn lists_go_by_what_was_written(rt: HostRuntime) -> Result<(), Fail> {
         summary.said.as_slice(),
         [
             Said::Nothing,
-            Said::Listed(first),
+            Said::Listed(vec![in alloc; first]?),
             Said::Nothing,
-            Said::Listed(both),
+            Said::Listed(vec![in alloc; both]?),
             Said::Refused(StepFault::NoProcessor(1)),
             Said::Nothing,
             Said::Nothing,
-            Said::Other,
+            Said::Listed(vec![in alloc; users, after_users]?),
         ]
         .as_slice()
     );

@@ -17,16 +17,16 @@ use history_model::answers::Answer;
 use history_model::events::Event;
 use outside::Sink;
 use phys_view::{Ledger, Steps};
-use rights_report::{line_count, write_line};
+use rights_report::{LineBuffer, line_count, write_line};
 
 /// Answers the lines of a log that have come to their end, up to the first that is refused. Each line of output is one
 /// put.
 ///
-/// It answers whether one of these lines is a point that found a stale translation. What `text` holds is no matter.
+/// It answers whether one of these lines is a point that found a stale translation. What `line` holds is no matter.
 pub fn answer_ready<K: Sink, L: Ledger>(
     session: &mut Session<'_, L>,
     lines: &mut Lines,
-    text: &mut String,
+    line: &mut LineBuffer,
     out: &mut K,
     steps: &mut Steps<L>,
 ) -> Result<bool, Stop>
@@ -50,7 +50,7 @@ pub fn answer_ready<K: Sink, L: Ledger>(
     'events: while let Some(event) = next_event(lines)? {
         let number = lines.line();
         let answer = step(session, &event, number, steps)?;
-        put_answer(&answer, text, out)?;
+        put_answer(&answer, line, out)?;
         stale |= has_findings(&answer);
     }
     Ok(stale)
@@ -80,16 +80,16 @@ fn step<L: Ledger>(
     answer.map_err(|fault| stop_of_event(number, fault))
 }
 
-/// Puts the lines of an answer, each as one piece, by way of a text that is kept from line to line.
-fn put_answer<K: Sink>(answer: &Answer, text: &mut String, out: &mut K) -> Result<(), Stop>
+/// Puts the lines of an answer, each as one piece.
+fn put_answer<K: Sink>(answer: &Answer, line: &mut LineBuffer, out: &mut K) -> Result<(), Stop>
     ensures puts { PutsLines (K.pieces out.old) (K.pieces out.new)
         (lines_of_answer answer.now) result }
     ensures cause { result ≡ Err Stop.Put → Rose (K.faults out.old) (K.faults out.new) }
     ensures count { K.faults out.old ≤ K.faults out.new }
 {
     for index in 0..line_count(answer) {
-        write_line(text, answer, index)?;
-        out.put(text.as_bytes())?;
+        write_line(line, answer, index);
+        out.put(line.bytes())?;
     }
     Ok(())
 }

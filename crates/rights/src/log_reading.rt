@@ -19,6 +19,7 @@ use audit_core::Session;
 use edit_log::Lines;
 use outside::{Failed, Shelf, Sink};
 use phys_view::{Ledger, Steps};
+use rights_report::LineBuffer;
 use std::alloc::Global;
 
 /// The greatest length of a log in bytes.
@@ -66,16 +67,16 @@ pub fn answer_log<S: Shelf, K: Sink, L: Ledger>(
     let mut bytes = vec![in alloc; 0u8; piece_len()]?;
     let buffer = bytes.as_mut_slice();
     let mut lines = Lines::new(alloc);
-    let mut text = String::new(alloc);
+    let mut line = LineBuffer::new();
     let mut read = 0;
     let mut stale = false;
     'pieces: while let Some(count) = next_piece(shelf, log, read, buffer)? {
         lines.feed(&buffer[..count])?;
         read += count as u64;
-        stale |= answer_ready(session, &mut lines, &mut text, out, steps)?;
+        stale |= answer_ready(session, &mut lines, &mut line, out, steps)?;
     }
     lines.finish();
-    stale |= answer_ready(session, &mut lines, &mut text, out, steps)?;
+    stale |= answer_ready(session, &mut lines, &mut line, out, steps)?;
     Ok(end(stale))
 }
 

@@ -9,6 +9,13 @@ use test_support::cores::{
 };
 use test_support::fields::Field;
 
+/// What the example core has in other places with five levels, of which its tables are the lower four.
+const FIVE_LEVELS: [Field; 3] = [
+    (CR3, 8, 0x7000),
+    (CR4, 8, 0x1020),
+    (MEMORY + 0x7000, 8, 0x1007),
+];
+
 /// What a run over a core and a log wrote, and its status.
 fn outcome(alloc: Global, core: &[u8], log: &[u8]) -> Result<(Vec<u8>, u8), AllocError> {
     let mut shelf = MemShelf::new(alloc);
@@ -22,7 +29,7 @@ fn outcome(alloc: Global, core: &[u8], log: &[u8]) -> Result<(Vec<u8>, u8), Allo
 #[test]
 fn lines_are_answered_or_refused(rt: HostRuntime) -> Result<(), Fail> {
     let core = example_core(rt.alloc())?;
-    let cases: [(&[u8], &[u8], u8); 10] = [
+    let cases: [(&[u8], &[u8], u8); 19] = [
         (
             b"ask 0 sr 0x1234\nask 0 sr 0x2000\nask 0 sr 0x200000\nask 0 sr 0x800000000000\n",
             b"granted 0x6234\ndenied absent 1\ndenied absent 2\ndenied not-canonical\n",
@@ -47,6 +54,38 @@ fn lines_are_answered_or_refused(rt: HostRuntime) -> Result<(), Fail> {
         (
             b"\n#\nask 0 sr 0x10000000000000000\n",
             b"line 3 refused: syntax\n",
+            4,
+        ),
+        (
+            b"invlpg 0 0x1000\ninvlpg 0 0x800000000000\ninvpcid 0 2 4095 0x800000000000\n\
+            invpcid 0 3 1 0x800000000000\nask 0 ur 0x0\n",
+            b"granted 0x5000\n",
+            0,
+        ),
+        (
+            b"set 0 cr4 0x20020\ninvpcid 0 0 1 0x1000\ninvpcid 0 1 4095 0x800000000000\n\
+            ask 0 ur 0x0\n",
+            b"granted 0x5000\n",
+            0,
+        ),
+        (b"invlpg 1 0x0\n", b"line 1 refused: no processor 1\n", 4),
+        (b"invpcid 0 4 4096 0x0\n", b"line 1 refused: bad type\n", 4),
+        (
+            b"invpcid 0 18446744073709551615 0 0x0\n",
+            b"line 1 refused: bad type\n",
+            4,
+        ),
+        (b"invpcid 0 1 1 0x0\n", b"line 1 refused: bad pcid\n", 4),
+        (b"invpcid 0 3 4096 0x0\n", b"line 1 refused: bad pcid\n", 4),
+        (
+            b"invpcid 0 0 0 0x800000000000\n",
+            b"line 1 refused: not canonical\n",
+            4,
+        ),
+        (
+            b"cpu 1 0x80010001 0x7000 0x1020 0xd00 0x2 0x0 0x0\ninvpcid 1 0 0 0x800000000000\n\
+            invpcid 1 0 0 0x100000000000000\n",
+            b"line 3 refused: not canonical\n",
             4,
         ),
     ];
@@ -191,11 +230,7 @@ fn the_walk_reads_the_tables_of_the_core(rt: HostRuntime) -> Result<(), Fail> {
             0,
         ),
         (
-            &[
-                (CR3, 8, 0x7000),
-                (CR4, 8, 0x1020),
-                (MEMORY + 0x7000, 8, 0x1007),
-            ],
+            &FIVE_LEVELS,
             b"ask 0 sr 0x800000000000\nask 0 sr 0x1234\n",
             b"denied absent 4\ngranted 0x6234\n",
             0,
@@ -259,65 +294,148 @@ fn writes_change_what_is_granted(rt: HostRuntime) -> Result<(), Fail> {
 /// The example core maps a page with all rights and one that isn't writable, both for users.
 #[test]
 fn lists_say_what_is_granted(rt: HostRuntime) -> Result<(), Fail> {
-    let core = example_core(rt.alloc())?;
-    let cases: [(&[u8], &[u8], u8); 7] = [
+    let alloc = rt.alloc();
+    let cases: [(&[Field], &[u8], &[u8], u8); 15] = [
         (
+            &[],
             b"list 0\n",
             b"areas 2\n0x0 0xfff 0x5000 rwxrwxrw\n0x1000 0x1fff 0x6000 r-xr-xr-\n",
             0,
         ),
         // The second page gets R/W: its frame follows the first one's, and both are one area.
         (
+            &[],
             b"write 0x4008 0760000000000000\nlist 0\n",
+            b"areas 1\n0x0 0x1fff 0x5000 rwxrwxrw\n",
+            0,
+        ),
+        // The same write twice.
+        (
+            &[],
+            b"write 0x4008 0760000000000000\nwrite 0x4008 0760000000000000\nlist 0\n",
             b"areas 1\n0x0 0x1fff 0x5000 rwxrwxrw\n",
             0,
         ),
         // Without WP a supervisor writes to what isn't writable.
         (
+            &[],
             b"set 0 cr0 0x80000001\nlist 0\n",
             b"areas 2\n0x0 0xfff 0x5000 rwxrwxrw\n0x1000 0x1fff 0x6000 r-xrwxrw\n",
             0,
         ),
         // SMEP and SMAP keep a supervisor from users' pages; with AC, its reads and writes pass that are explicit.
         (
+            &[],
             b"set 0 cr4 0x300020\nlist 0\nset 0 ac 1\nlist 0\n",
             b"areas 2\n0x0 0xfff 0x5000 rwx-----\n0x1000 0x1fff 0x6000 r-x-----\n\
               areas 2\n0x0 0xfff 0x5000 rwxrw---\n0x1000 0x1fff 0x6000 r-xr----\n",
             0,
         ),
-        // Entry 256 of the PML4 references the PML4: each table below it is a page too.
+        // A key that disables accesses, and then only writes; without WP that isn't for supervisors.
         (
-            b"write 0x1800 0710000000000000\nlist 0\n",
+            &[],
+            b"write 0x4000 0750000000000018\nset 0 cr4 0x400020\nset 0 pkru 0x40\nlist 0\n\
+              set 0 pkru 0x80\nset 0 cr0 0x80000001\nask 0 uw 0x0\nask 0 sw 0x0\nlist 0\n",
+            b"areas 2\n0x0 0xfff 0x5000 --x--x--\n0x1000 0x1fff 0x6000 r-xr-xr-\n\
+              denied key\ngranted 0x5000\nareas 1\n0x0 0x1fff 0x5000 r-xrwxrw\n",
+            0,
+        ),
+        // LASS keeps a supervisor from fetches in the lower half.
+        (
+            &[],
+            b"set 0 cr4 0x8000020\nask 0 sx 0x0\nask 0 ux 0x0\nask 0 ur 0xffff800000000000\nlist 0\n",
+            b"denied lass\ngranted 0x5000\ndenied lass\n\
+              areas 2\n0x0 0xfff 0x5000 rwxrw-rw\n0x1000 0x1fff 0x6000 r-xr--r-\n",
+            0,
+        ),
+        // Entry 256 of the PML4 references the PML4: each table below it is a page too. Then the PT is used twice.
+        (
+            &[],
+            b"write 0x1800 0710000000000000\nlist 0\nwrite 0x3008 0740000000000000\nlist 0\n",
             b"areas 6\n0x0 0xfff 0x5000 rwxrwxrw\n0x1000 0x1fff 0x6000 r-xr-xr-\n\
               0xffff800000000000 0xffff800000000fff 0x4000 rwxrwxrw\n\
+              0xffff804000000000 0xffff804000000fff 0x3000 rwxrwxrw\n\
+              0xffff804020000000 0xffff804020000fff 0x2000 rwxrwxrw\n\
+              0xffff804020100000 0xffff804020100fff 0x1000 rwxrwxrw\n\
+              areas 9\n0x0 0xfff 0x5000 rwxrwxrw\n0x1000 0x1fff 0x6000 r-xr-xr-\n\
+              0x200000 0x200fff 0x5000 rwxrwxrw\n0x201000 0x201fff 0x6000 r-xr-xr-\n\
+              0xffff800000000000 0xffff800000000fff 0x4000 rwxrwxrw\n\
+              0xffff800000001000 0xffff800000001fff 0x4000 rwxrwxrw\n\
               0xffff804000000000 0xffff804000000fff 0x3000 rwxrwxrw\n\
               0xffff804020000000 0xffff804020000fff 0x2000 rwxrwxrw\n\
               0xffff804020100000 0xffff804020100fff 0x1000 rwxrwxrw\n",
             0,
         ),
+        // Five levels.
         (
+            &FIVE_LEVELS,
+            b"list 0\nask 0 ur 0x800000000000\nset 0 cr3 0x4000000000007000\n\
+              ask 0 ur 0x800000000000\nask 0 ux 0x800000000000\n",
+            b"areas 2\n0x0 0xfff 0x5000 rwxrwxrw\n0x1000 0x1fff 0x6000 r-xr-xr-\n\
+              denied absent 4\ndenied not-canonical\ndenied absent 4\n",
+            0,
+        ),
+        // A page of 1 GByte, on a machine with such pages and on one without.
+        (
+            &[],
             b"write 0x2000 e700004000000000\nlist 0\n",
             b"areas 1\n0x0 0x3fffffff 0x40000000 rwxrwxrw\n",
             0,
         ),
-        (b"list 3\n", b"line 1 refused: no processor 3\n", 4),
+        (
+            &[(BIG, 4, 0)],
+            b"write 0x2000 e700004000000000\nask 0 ur 0x0\nlist 0\n",
+            b"denied reserved 3\nareas 0\n",
+            0,
+        ),
+        // A page of 2 MBytes, and one of 4 KBytes whose frame follows.
+        (
+            &[],
+            b"write 0x3000 e700400000000000\nwrite 0x3008 0740000000000000\n\
+              write 0x4000 0700600000000000\nlist 0\n",
+            b"areas 2\n0x0 0x200fff 0x400000 rwxrwxrw\n0x201000 0x201fff 0x6000 r-xr-xr-\n",
+            0,
+        ),
+        // An entry of level 2 without U/S.
+        (
+            &[],
+            b"write 0x3000 0340000000000000\nlist 0\n",
+            b"areas 2\n0x0 0xfff 0x5000 ---rwxrw\n0x1000 0x1fff 0x6000 ---r-xr-\n",
+            0,
+        ),
+        // An ask, and then the list.
+        (
+            &[],
+            b"ask 0 sr 0x0\nlist 0\n",
+            b"granted 0x5000\nareas 2\n0x0 0xfff 0x5000 rwxrwxrw\n0x1000 0x1fff 0x6000 r-xr-xr-\n",
+            0,
+        ),
+        (&[], b"list 3\n", b"line 1 refused: no processor 3\n", 4),
     ];
-    for (log, text, status) in cases {
-        let (written, code) = outcome(rt.alloc(), &core, log)?;
+    for (fields, log, text, status) in cases {
+        let core = example_core_with(alloc, fields)?;
+        let (written, code) = outcome(alloc, &core, log)?;
         assert_eq!(rt; written.as_slice(), text);
         assert_eq!(rt; code, status);
     }
+    // Each entry of the PML4 references the PML4.
+    let mut fields = Vec::new(alloc);
+    for slot in 0..512usize {
+        fields.push((MEMORY + 0x1000 + 8 * slot, 8, 0x1007))?;
+    }
+    let core = example_core_with(alloc, &fields)?;
+    let (written, code) = outcome(alloc, &core, b"list 0\nask 0 ur 0x0\n")?;
+    assert_eq!(rt;
+        written.as_slice(),
+        b"areas too large\ngranted 0x1000\n".as_slice()
+    );
+    assert_eq!(rt; code, 0);
     Ok(())
 }
 
 #[test]
 fn registers_change_what_is_granted(rt: HostRuntime) -> Result<(), Fail> {
-    let five_levels: &[Field] = &[
-        (CR3, 8, 0x7000),
-        (CR4, 8, 0x1020),
-        (MEMORY + 0x7000, 8, 0x1007),
-    ];
-    let cases: [(&[Field], &[u8], &[u8], u8); 5] = [
+    let cases: [(&[Field], &[u8], &[u8], u8); 4] = [
         // Masking of user pointers, from bit 48 and from bit 57 on; fetches aren't masked.
         (
             &[],
@@ -332,13 +450,6 @@ fn registers_change_what_is_granted(rt: HostRuntime) -> Result<(), Fail> {
             &[],
             b"set 0 cr4 0x8000020\nask 0 sx 0x0\nask 0 ux 0x0\nask 0 ur 0xffff800000000000\n",
             b"denied lass\ngranted 0x5000\ndenied lass\n",
-            0,
-        ),
-        (
-            five_levels,
-            b"ask 0 ur 0x800000000000\nset 0 cr3 0x4000000000007000\nask 0 ur 0x800000000000\n\
-              ask 0 ux 0x800000000000\n",
-            b"denied absent 4\ndenied not-canonical\ndenied absent 4\n",
             0,
         ),
         (
@@ -393,8 +504,10 @@ fn state_lines_state_what_no_note_does(rt: HostRuntime) -> Result<(), Fail> {
     let cases: [(&[u8], &[u8], u8); 3] = [
         (b"", b"", 0),
         (
-            b"machine 46 1\ncpu 0 0x80050033 0x1006 0x370ee0 0xd01 0x246 0x55555554 0x0\nask 0 ur 0x0\nask 0 sr 0x0\n",
-            b"granted 0x5000\ndenied smap\n",
+            b"machine 46 1\ncpu 0 0x80050033 0x1006 0x370ee0 0xd01 0x246 0x55555554 0x0\n\
+              ask 0 ur 0x0\nask 0 sr 0x0\nlist 0\nset 0 cr3 0x8006\nask 0 ur 0x0\n",
+            b"granted 0x5000\ndenied smap\nareas 2\n0x0 0xfff 0x5000 rwx-----\n\
+              0x1000 0x1fff 0x6000 r-x-----\ndenied absent 4\n",
             0,
         ),
         (b"ask 0 sr 0x0\n", b"line 1 refused: no processor 0\n", 4),

@@ -1,4 +1,5 @@
-use Rattle.std.proofs.Common.{sym}
+use Rattle.std.proofs.Common.{sym, arith}
+use Rattle.audit_core.proofs.HostLaws.{hosts_later}
 use Rattle.audit_core.proofs.SpaceLists.{list-accepted, list-steps}
 use Rattle.audit_core.proofs.session.Session.list.Goals as goal
 
@@ -16,3 +17,6 @@ pub returns-in_default-clause-out_of_memory_cost : goal.returns-in_default-claus
 returns-in_default-clause-out_of_memory_cost g c =
     let found = rw c.in_ok-regs.ensures.ok_part at c.regs.ensures in
     rw (sym c.self.view_is) (λ moment has memory. list-steps _ c.args.cpu _ _ _ (sym found) c.list.ensures.cost moment has)
+
+pub invariant_of-self-2 : goal.invariant_of-self-2
+invariant_of-self-2 g c = (c.self.invariant.0, hosts_later _ _ _ (omega arith) c.self.invariant.1)

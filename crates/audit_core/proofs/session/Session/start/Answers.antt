@@ -1,7 +1,12 @@
 -- A core that is read is the beginning.
-use Rattle.std.proofs.Common.{rules}
+use Rattle.std.proofs.Common.{◌∙◌, [], ap}
+use Rattle.history_model.specs.History.{insert_processors}
 use Rattle.audit_core.proofs.Accepting.{stands_first}
+use Rattle.audit_core.proofs.EventLaws.{core-stands}
 use Rattle.audit_core.proofs.session.Session.start.Goals as goal
 
 pub returns : goal.returns
-returns g c = stands_first c.args.core _ c.requires (search rules)
+returns g c = stands_first c.args.core _ c.requires (core-stands c.args.core c.new.result c.in_ok-hosts.hosts
+    c.new.ensures.value c.new.ensures.memory
+    (c.in_ok-hosts.ensures.processors ∙ ap (insert_processors []) c.as_slice.ensures)
+    c.in_ok-hosts.ensures.new c.in_ok-hosts.ensures.distinct)

@@ -1,7 +1,0 @@
--- None of the processors so far has the number.
-use Rattle.std.proofs.Common.{◌≡◌, drop}
-use Rattle.history_model.specs.History.{regs_in}
-use Rattle.audit_core.proofs.processors.regs_of.Given as goal
-
-abbrev pub invariant-loop-processor : goal.invariant-loop-processor
-invariant-loop-processor l = regs_in (drop l.processor-index l.processors) l.cpu ≡ regs_in l.processors l.cpu
