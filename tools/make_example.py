@@ -28,19 +28,19 @@ TABLES_SIZE = 65536
 ENTRIES = {0x1000: 0x2007, 0x2000: 0x3007, 0x3000: 0x4007, 0x4000: 0x5007, 0x4008: 0x6005}
 
 
-def file_header():
-    """A little-endian core of a 64-bit x86-64 machine with two program headers; fields that aren't read are 0."""
+def file_header(count=2):
+    """A little-endian core of a 64-bit x86-64 machine with program headers; fields that aren't read are 0."""
     head = bytearray(FILE_HEADER_SIZE)
     head[0:6] = b"\x7fELF" + bytes([2, 1])
     struct.pack_into("<HH", head, 16, 4, 62)
     struct.pack_into("<Q", head, 32, FILE_HEADER_SIZE)
-    struct.pack_into("<HH", head, 54, PROGRAM_HEADER_SIZE, 2)
+    struct.pack_into("<HH", head, 54, PROGRAM_HEADER_SIZE, count)
     return bytes(head)
 
 
-def program_header(kind, offset, file_size):
-    """A program header at physical address 0; fields that aren't read are 0."""
-    return struct.pack("<IIQQQQQQ", kind, 0, offset, 0, 0, file_size, 0, 0)
+def program_header(kind, offset, file_size, address=0):
+    """A program header at a physical address; fields that aren't read are 0."""
+    return struct.pack("<IIQQQQQQ", kind, 0, offset, 0, address, file_size, 0, 0)
 
 
 def state_note(kind, description):
@@ -48,15 +48,24 @@ def state_note(kind, description):
     return struct.pack("<III", 10, len(description), kind) + b"X86RIGHTS\0" + bytes(2) + description
 
 
-def machine_note():
-    return state_note(1, struct.pack("<II", 40, 1))
+def machine_note(width=40, big=1):
+    return state_note(1, struct.pack("<II", width, big))
 
 
-def processor_note():
-    """Processor 0 with paging on, four levels, its top table at 0x1000, and execute-disable."""
-    cr0, cr3, cr4, efer, rflags = 0x80010001, 0x1000, 0x20, 0xD00, 0x2
-    pkru, pkrs = 0, 0
-    return state_note(2, struct.pack("<II5QIIQ", 0, 0, cr0, cr3, cr4, efer, rflags, pkru, pkrs, 0))
+def processor_note(cr0=0x80010001, cr3=0x1000, cr4=0x20, efer=0xD00, rflags=0x2, pkru=0, pkrs=0, number=0):
+    """A processor; if nothing else is said, with paging on, four levels, a top table at 0x1000, and execute-disable."""
+    return state_note(2, struct.pack("<II5QIIQ", number, 0, cr0, cr3, cr4, efer, rflags, pkru, pkrs, 0))
+
+
+def core_of(segments, notes):
+    """A core of notes and of segments, each by its physical address and its bytes."""
+    offset = FILE_HEADER_SIZE + PROGRAM_HEADER_SIZE * (len(segments) + 1)
+    headers = program_header(4, offset, len(notes))
+    offset += len(notes)
+    for address, data in segments:
+        headers += program_header(1, offset, len(data), address)
+        offset += len(data)
+    return file_header(len(segments) + 1) + headers + notes + b"".join(data for _, data in segments)
 
 
 def page_tables():

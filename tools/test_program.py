@@ -20,12 +20,14 @@ import tempfile
 import unittest
 from pathlib import Path
 
+from listing_cases import CASES, LIMITS, listed
 from make_example import (
     FILE_HEADER_SIZE,
     NOTES_OFFSET,
     NOTES_SIZE,
     PROGRAM_HEADER_SIZE,
     SEGMENT_OFFSET,
+    core_of,
     file_header,
     machine_note,
     page_tables,
@@ -33,6 +35,7 @@ from make_example import (
     program_header,
     state_note,
 )
+from slow_listing import RandomRun, Session
 
 CRATE = Path(__file__).resolve().parent.parent / "crates" / "rights"
 BUILT = [CRATE / "out" / "rights", CRATE / "out" / "rights.by-rattle"]
@@ -40,6 +43,9 @@ BUILT = [CRATE / "out" / "rights", CRATE / "out" / "rights.by-rattle"]
 USAGE = b"usage: run CORE LOG | check CORE | gen SEED COUNT\n"
 MEBIBYTE = 1 << 20
 NOBODY = 65534
+
+# How many random cores and logs are run.
+RANDOM_RUNS = 60
 
 # How many pages may be written to.
 PAGE_LIMIT = 262_144
@@ -282,6 +288,7 @@ class Statuses(Program):
         self.write_example()
         for log, text in (
             (b"ask 0 ur 0x0\npoint current\nask 0 ur 0x0\n", b"granted 0x5000\nline 2 refused: not built\n"),
+            (b"invlpg 0 0x0\ninvpcid 0 4 0 0x0\n", b"line 2 refused: bad type\n"),
             (b"ask 7 ur 0x0\n", b"line 1 refused: no processor 7\n"),
             (b"write 0x0 00\nwrite 0x1fff 0000\nask 0 ur 0x0\n", b"line 2 refused: crosses 0x2000\n"),
             (b"ask 0 ur 0x0\nwrite 0xffff 0000\n", b"granted 0x5000\nline 2 refused: unknown 0x10000\n"),
@@ -290,6 +297,40 @@ class Statuses(Program):
         ):
             self.write("log", log)
             self.ends(["run", "example.core", "log"], 4, text)
+
+    def test_4_a_refused_write(self):
+        end = 1 << 52
+        lower = page_tables()
+        # One segment touches the first, with a hole of one byte before the next; one ends where memory does.
+        segments = [
+            (0, lower),
+            (0x10000, b"\1" * 0x1800),
+            (0x11801, b"\2" * 0x3000),
+            (end - 4, b"\3" * 4),
+        ]
+        self.write("core", core_of(segments, machine_note() + processor_note()))
+        ends = b"write 0xffffffffffffc 01020304\nwrite 0xffffffffffffe 0102\nwrite 0xfffffffffffff 01\n"
+        whole = b"write 0x4000 " + b"00" * 4096 + b"\n"
+        seam = b"write 0x4000 0760000000000000\nwrite 0xffff 00\nwrite 0x10000 00\n"
+        for log, text in (
+            (ends + b"write 0xfffffffffffff 0102\n", b"line 4 refused: unknown 0x10000000000000\n"),
+            (b"write 0x10000000000000 01\n", b"line 1 refused: unknown 0x10000000000000\n"),
+            (b"write 0xfffffffffffff000 " + b"00" * 4096, b"line 1 refused: unknown 0xfffffffffffff000\n"),
+            (b"write 0xffffffffffffffff 00\n", b"line 1 refused: unknown 0xffffffffffffffff\n"),
+            (b"write 0xffffffffffffffff 0000\n", b"line 1 refused: unknown 0xffffffffffffffff\n"),
+            (whole + b"write 0x4001 " + b"00" * 4096, b"line 2 refused: crosses 0x5000\n"),
+            (b"write 0x4fff 0000\n", b"line 1 refused: crosses 0x5000\n"),
+            # The segments touch where the pages do, so their seam is no hole, but the write is of two pages.
+            (seam + b"write 0xffff 0000\n", b"line 4 refused: crosses 0x10000\n"),
+            (b"write 0x117ff 0000\n", b"line 1 refused: unknown 0x11800\n"),
+            (b"write 0x117ff 00\nwrite 0x11801 00\nwrite 0x11800 00\n", b"line 3 refused: unknown 0x11800\n"),
+            (b"write 0x10fff 00\nwrite 0x10800 " + b"00" * 4096, b"line 2 refused: crosses 0x11000\n"),
+            (b"write 0x13fff 00\nwrite 0x13fff 0000\n", b"line 2 refused: crosses 0x14000\n"),
+            (b"write 0x14800 0000\n", b"line 1 refused: unknown 0x14801\n"),
+            (b"write 0x14800 " + b"00" * 4096, b"line 1 refused: unknown 0x14801\n"),
+        ):
+            self.write("log", log)
+            self.ends(["run", "core", "log"], 4, text)
 
     def test_4_one_page_too_many(self):
         size = 16 * MEBIBYTE
@@ -441,6 +482,56 @@ class Files(Program):
         tool = Path(__file__).with_name("make_example.py")
         subprocess.run([sys.executable, "-B", tool, self.room / "core"], check=True)
         self.assertEqual((self.room / "core").read_bytes(), (CRATE / "data" / "example.core").read_bytes())
+
+
+class Lists(Program):
+    def run_case(self, case):
+        with self.subTest(case.name):
+            self.write("core", case.core())
+            self.write("log", case.log.encode())
+            self.ends(["run", "core", "log"], 0, case.text.encode())
+
+    def test_cases_by_hand(self):
+        for case in CASES:
+            self.run_case(case)
+
+    def test_cases_by_hand_are_those_of_the_slow_session(self):
+        for case in CASES:
+            if "too large" not in case.text:
+                with self.subTest(case.name):
+                    session = Session(case.segments, case.registers, case.width, case.big)
+                    self.assertEqual(session.run(case.log), case.text)
+
+    def test_as_many_tables_and_pages_as_there_may_be(self):
+        for case in LIMITS:
+            self.run_case(case)
+
+    def test_random_tables(self):
+        listings = 0
+        for seed in range(RANDOM_RUNS):
+            core, log, text, count = RandomRun(seed).make()
+            self.write("core", core)
+            self.write("log", log)
+            with self.subTest(seed=seed):
+                self.ends(["run", "core", "log"], 0, text)
+            listings += count
+        self.assertGreater(listings, 10 * RANDOM_RUNS)
+
+    def test_lists_of_several_processors(self):
+        # The second one has five levels, of which the example's tables are the lower four; its first allows no writes.
+        notes = machine_note() + processor_note() + processor_note(cr3=0x7000, cr4=0x1020, number=5)
+        tables = bytearray(page_tables())
+        struct.pack_into("<Q", tables, 0x7000, 0x1000 | U | P)
+        self.write("core", core_of([(0, bytes(tables))], notes))
+        log = b"list 0\nlist 5\nwrite 0x4008 0760000000000000\nlist 5\nlist 0\nset 5 cr0 0x80000001\nlist 5\n"
+        self.write("log", log)
+        text = (
+            listed("0x0 0xfff 0x5000 rwxrwxrw", "0x1000 0x1fff 0x6000 r-xr-xr-")
+            + listed("0x0 0x1fff 0x5000 r-xr-xr-") * 2
+            + listed("0x0 0x1fff 0x5000 rwxrwxrw")
+            + listed("0x0 0x1fff 0x5000 r-xrwxrw")
+        )
+        self.ends(["run", "core", "log"], 0, text.encode())
 
 
 class Output(Program):
