@@ -7,3 +7,4 @@ pub mod UnderLaws
 pub mod TableLaws
 pub mod TopLaws
 pub mod RootLaws
+pub mod SteadyTableLaws

@@ -1,5 +1,5 @@
 -- The entries that one slot of a table made over time, with NXE as it was, and what they come to. Our own words.
-use Rattle.std.specs.Prelude.{◌≡◌, ℕ, ◌+◌, ◌/◌, ◌&&◌, ◌||◌, ◌⊎◌, ◌≤◌, Bool, true, false, List, [], ◌∷◌, Some, None}
+use Rattle.std.specs.Prelude.{◌≡◌, ℕ, ◌+◌, ◌*◌, ◌&&◌, ◌||◌, ◌⊎◌, ◌<◌, ◌≤◌, Bool, true, false, List, [], ◌∷◌, length, slice_index_or, Some, None}
 use Rattle.paging_model.specs.Entries.{IsFrame}
 use Rattle.paging_model.specs.LinearAddress.{span}
 use Rattle.paging_model.specs.declared.entries.Bits.{Bits}
@@ -11,7 +11,7 @@ use Rattle.past_entries.specs.Fills.{held_of_fill}
 use Rattle.past_entries.specs.declared.entries.PastEntry.{PastEntry}
 use Rattle.present_pages.specs.StalePages.{IsPageIn}
 use Rattle.time_sets.specs.Sets.{has_time}
-use Rattle.version_store.specs.Changes.{changes_of}
+use Rattle.version_store.specs.Changes.{value_at}
 use Rattle.stale_audit.specs.Facts.{Facts, IsStaleBy, made_with}
 use Rattle.stale_audit.specs.declared.made_entries.MadeEntries.{MadeEntries}
 use Rattle.stale_audit.specs.declared.made_entries.MadeEntries.TheVariants.{Always, Past}
@@ -29,12 +29,18 @@ pub record IsSplit (facts : Facts) (in_use : List (ℕ × ℕ)) (table : TimedTa
   pub clear : (t : ℕ) → has_time table.nxe_clear t ≡ (has_time in_use t && has_time facts.nxe_clear t)
   pub set : (t : ℕ) → has_time table.nxe_set t ≡ (has_time in_use t && has_time facts.nxe_set t)
 
--- a table at a frame, at some of the times of the processor in the PCID; where it says so, none of its slots has a kept change
+-- at each time from the horizon on, a slot held its present value
+abbrev pub IsSteadySlot : Facts → ℕ → Type 0
+IsSteadySlot facts address = (present t : ℕ) → facts.host.horizon ≤ t → value_at facts.kept address present t ≡ present
+
+-- a table at a frame, at some of the times of the processor in the PCID; a slot of which it doesn't say that it changed held
+-- its present value since the horizon
 pub record IsTimed (facts : Facts) (table : TimedTable) : Type 0 where
   pub frame : IsFrame table.frame
   pub clear : (t : ℕ) → has_time table.nxe_clear t ≡ true → has_time facts.nxe_clear t ≡ true
   pub set : (t : ℕ) → has_time table.nxe_set t ≡ true → has_time facts.nxe_set t ≡ true
-  pub unchanged : table.has_changes ≡ false → changes_of facts.kept (table.frame / 4096) ≡ []
+  pub len : length table.changed ≡ 512
+  pub unchanged : (i : ℕ) → i < 512 → slice_index_or table.changed i false ≡ false → IsSteadySlot facts (table.frame + 8 * i)
 
 -- the spans of a slot's values from a time up to now
 abbrev pub spans_of : SlotValues → ℕ → ℕ → List (ℕ × ℕ × ℕ)

@@ -1,11 +1,12 @@
 //! A processor at a point, and what it may hold under one PCID.
 
-ghost use Rattle.std.specs.Prelude.{◌≡◌, ◌%◌, ◌&&◌, not};
+ghost use Rattle.std.specs.Prelude.{◌≡◌, ◌%◌, ◌&&◌, not, true};
 ghost use Rattle.history_model.specs.CachedTranslations.{cache_key};
 ghost use Rattle.paging_model.specs.LinearAddress.{span};
 ghost use Rattle.paging_model.specs.Registers.{pge};
 ghost use Rattle.past_entries.specs.Fills.{held_of_fill};
 ghost use Rattle.stale_audit.specs.Facts.{settings_with as settings_with_nxe};
+ghost use Rattle.stale_audit.specs.SteadyTables.{HadOneNxe};
 
 use cache_rules::Host;
 use history_model::caches::CacheKey;
@@ -93,6 +94,17 @@ impl<'a, 'b, L: Ledger> Point<'a, 'b, L> {
         ensures { result ≡ settings_with_nxe nxe self.now.settings }
     {
         with_nxe(&self.settings, nxe)
+    }
+
+    /// Whether NXE was what it is now at each time of the processor in the PCID.
+    pub(crate) fn had_one_nxe(&self) -> bool
+        ensures { result ≡ true → HadOneNxe self.now }
+    {
+        if self.settings.nxe {
+            self.nxe_clear.is_empty()
+        } else {
+            self.nxe_set.is_empty()
+        }
     }
 
     /// CR4.PGE, which has been the same since the horizon.

@@ -1,6 +1,6 @@
 //! The values of a slot since the horizon.
 
-ghost use Rattle.std.specs.Prelude.{◌≡◌, ◌+◌, ◌/◌, ◌≤◌, None, IfOk};
+ghost use Rattle.std.specs.Prelude.{◌≡◌, ◌+◌, ◌/◌, ◌%◌, ◌≤◌, None, IfOk};
 ghost use Rattle.stale_audit.specs.SlotEntries.{IsTimed, spans_of};
 ghost use Rattle.version_store.specs.Changes.{value_at};
 ghost use Rattle.version_store.specs.Spanning.{AreSpans};
@@ -10,6 +10,12 @@ use crate::timed_tables::TimedTable;
 use phys_view::Ledger;
 use std::alloc::AllocError;
 use version_store::Spans;
+
+/// The length of a frame in bytes.
+const FRAME_LEN: u64 = 4096;
+
+/// The length of a slot in bytes.
+const SLOT_LEN: u64 = 8;
 
 /// The values of a slot from a time up to now.
 #[derive(Drop)]
@@ -30,11 +36,13 @@ pub(crate) fn slot_values<L: Ledger>(
     requires timed { IsTimed point.now table.now }
     requires order { point.now.host.horizon ≤ point.now.end }
     requires inside { address / 4096 ≡ table.now.frame / 4096 }
+    requires slot { address % 8 ≡ 0 }
     ensures { IfOk result (λ values. AreSpans
         (value_at point.now.kept address present) None point.now.host.horizon (point.now.end + 1)
         (spans_of values point.now.host.horizon point.now.end)) }
 {
-    if !table.has_changes {
+    let place = (address % FRAME_LEN / SLOT_LEN) as usize;
+    if !table.changed[place] {
         return Ok(SlotValues::Same(present));
     }
     let spans = point.store.spans(

@@ -21,8 +21,8 @@ pub(crate) struct TimedTable {
     pub nxe_clear: Times,
     /// When it was in use with NXE 1.
     pub nxe_set: Times,
-    /// Whether changes of a slot of the table are kept.
-    pub has_changes: bool,
+    /// Which of its slots changed after the horizon, one after another.
+    pub changed: [bool; 512],
 }
 
 /// A table that is in use at some times.
@@ -43,6 +43,6 @@ pub(crate) fn timed_table<L: Ledger>(
         bits,
         nxe_clear: in_use.meet(point.nxe_clear)?,
         nxe_set: in_use.meet(point.nxe_set)?,
-        has_changes: point.store.has_changes(frame),
+        changed: point.store.changed_after(frame, point.host.horizon()),
     })
 }

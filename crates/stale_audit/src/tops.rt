@@ -6,6 +6,7 @@ ghost use Rattle.audit_laws.specs.Leads.{IsTimeOf};
 ghost use Rattle.paging_model.specs.Entries.{IsFrame};
 ghost use Rattle.paging_model.specs.Walking.{top_level};
 ghost use Rattle.stale_audit.specs.Facts.{AreTimely};
+ghost use Rattle.stale_audit.specs.SteadyTables.{AreKnownSteady};
 ghost use Rattle.stale_audit.specs.Tops.{AreFrames, IsFoundFrom, IsFoundFromSome};
 ghost use Rattle.time_sets.specs.Sets.{has_time};
 
@@ -13,6 +14,7 @@ use crate::descent::audit_slot;
 use crate::firsts::first_of_two;
 use crate::point::Point;
 use crate::ranges::{ROOT_BITS, top_range};
+use crate::steady_tables::KnownTables;
 use crate::timed_tables::timed_table;
 use audit_laws::stale_pages::StalePage;
 use phys_view::{Ledger, Steps};
@@ -35,34 +37,35 @@ pub fn audit_roots<L: Ledger>(
     ensures { IfOk result (IsFirst (IsFoundFromSome point.now
         (top_level point.now.settings) roots.now.entries)) }
 {
+    let mut known = BTreeMap::new(point.alloc);
     let mut first = None;
     for (root, in_use) in roots {
-        let found = audit_top(point, *root, in_use, steps)?;
+        let found = audit_top(point, *root, in_use, &mut known, steps)?;
         first = first_of_two(first, found);
     }
     Ok(first)
 }
 
 /// The first finding under a root that was in use at some times.
-///
-/// # Errors
-/// If the allocator fails.
-pub fn audit_top<L: Ledger>(
+fn audit_top<L: Ledger>(
     point: &Point<'_, '_, L>,
     root: u64,
     in_use: &Times,
+    known: &mut KnownTables,
     steps: &mut Steps<L>,
 ) -> Result<Option<StalePage>, AllocError>
     requires ready { AreTimely point.now }
+    requires known { AreKnownSteady point.now known.old }
     requires root { IsFrame root }
     requires home { IsFrame point.now.home }
-    ensures { IfOk result (IsFirst (IsFoundFrom point.now (IsTimeOf (has_time in_use.now))
+    ensures known { AreKnownSteady point.now known.new }
+    ensures first { IfOk result (IsFirst (IsFoundFrom point.now (IsTimeOf (has_time in_use.now))
         (top_level point.now.settings) root)) }
 {
     let table = timed_table(point, root, ROOT_BITS, in_use)?;
     for i in 0..512u64 {
         let range = top_range(point, i, steps);
-        let found = audit_slot(point, &table, range, steps)?;
+        let found = audit_slot(point, &table, range, known, steps)?;
         if found.is_some() {
             return Ok(found);
         }

@@ -5,3 +5,4 @@ pub mod Growing
 pub mod HistoryLaws
 pub mod Packing
 pub mod SlotLists
+pub mod LastTimes

@@ -1,5 +1,5 @@
 -- The kept changes of memory, and the values that they tell. Our own words.
-use Rattle.std.specs.Prelude.{◌≡◌, ℕ, zero, suc, ◌+◌, ◌/◌, ◌%◌, ◌<◌, ◌==◌, ◌&&◌, Bool, List, [], ◌∷◌, ◌++◌, length, Option, Some, None, nat_lt, unwrap_or, if◌then◌else◌}
+use Rattle.std.specs.Prelude.{◌≡◌, ℕ, zero, suc, ◌+◌, ◌/◌, ◌%◌, ◌<◌, ◌==◌, ◌&&◌, Bool, List, [], ◌∷◌, ◌++◌, length, Option, Some, None, max, nat_lt, unwrap_or, if◌then◌else◌}
 use Rattle.std.specs.BTreeMap.{insert_entry, is_at}
 use Rattle.std.specs.List.{filter, list_any, sum_by}
 use Rattle.std.specs.Map.{lookup, values_of}
@@ -49,9 +49,23 @@ old_at kept slot t = old_in (changes_of kept (slot / 4096)) (slot % 4096) t
 abbrev pub value_at : KeptChanges → ℕ → ℕ → ℕ → ℕ
 value_at kept slot = value_in (changes_of kept (slot / 4096)) (slot % 4096)
 
+-- the time of the last of some changes; 0 where there are none
+abbrev pub last_time : List Change → ℕ
+last_time [] = 0
+last_time (one ∷ rest) = max one.time (last_time rest)
+
+-- the time of the last kept change of any slot; 0 where none is kept
+abbrev pub last_kept_time : KeptChanges → ℕ
+last_kept_time [] = 0
+last_kept_time (one ∷ rest) = max (last_time one.1) (last_kept_time rest)
+
 -- whether the slot at an offset has a change
 abbrev pub is_changed : List Change → ℕ → Bool
 is_changed changes offset = list_any (λ one. one.offset == offset) changes
+
+-- whether the slot at an offset has a change after a time
+abbrev pub is_changed_after : List Change → ℕ → ℕ → Bool
+is_changed_after changes offset t = list_any (λ one. one.offset == offset && nat_lt t one.time) changes
 
 -- so many slots one after another, from one on
 unfoldable pub slots_from : ℕ → ℕ → List ℕ
@@ -73,6 +87,11 @@ blocks_for changes = (length changes + 255) / 256
 -- the number of blocks for kept changes: each frame has its own
 abbrev pub kept_blocks : KeptChanges → ℕ
 kept_blocks kept = sum_by blocks_for (values_of kept)
+
+-- so many blocks, and such a time of the last change, are those of kept changes
+pub record AreCounted (kept : KeptChanges) (blocks last : ℕ) : Type 0 where
+  pub blocks_are : blocks ≡ kept_blocks kept
+  pub last_is : last ≡ last_kept_time kept
 
 -- the number of kept changes
 abbrev pub change_count : KeptChanges → ℕ

@@ -1,7 +1,7 @@
 -- How the changes of a frame are kept: in records of 16 bytes, 256 of them to a block. Our own format.
-use Rattle.std.specs.Prelude.{ℕ, zero, suc, ◌+◌, ◌*◌, ◌/◌, ◌%◌, ◌<◌, ◌≤◌, length, List, [], ◌∷◌, ◌++◌, drop, slice_index_or}
+use Rattle.std.specs.Prelude.{◌≡◌, ℕ, zero, suc, ◌+◌, ◌*◌, ◌/◌, ◌%◌, ◌<◌, ◌≤◌, length, List, [], ◌∷◌, ◌++◌, drop, slice_index_or}
 use Rattle.byteorder.specs.Endian.{little_number}
-use Rattle.version_store.specs.Changes.{IsSlotOffset}
+use Rattle.version_store.specs.Changes.{IsSlotOffset, last_time}
 use Rattle.version_store.specs.declared.change.Change.{Change}
 
 -- the change whose record bytes begin with
@@ -26,7 +26,9 @@ pub record IsFilledTo (blocks : List (List ℕ)) (n : ℕ) : Type 0 where
   pub room : n ≤ 256 * length blocks
   pub full : 256 * length blocks < n + 256
 
--- the changes of a frame: they fill their blocks, and each is of a slot, whose place in the frame is a multiple of 8
-pub record AreOfFrame (blocks : List (List ℕ)) (n : ℕ) : Type 0 where
+-- the changes of a frame: they fill their blocks, each is of a slot, whose place in the frame is a multiple of 8, and the
+-- last has this time
+pub record AreOfFrame (blocks : List (List ℕ)) (n last : ℕ) : Type 0 where
   pub filled : IsFilledTo blocks n
   pub slots : (i : ℕ) → i < n → IsSlotOffset (change_at blocks i).offset
+  pub last_is : last ≡ last_time (changes_in blocks n)

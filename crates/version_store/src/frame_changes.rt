@@ -1,7 +1,7 @@
 //! The changes of one frame, in blocks.
 
 ghost use Rattle.std.specs.Prelude.{◌≡◌, ℕ, ◌+◌, ◌*◌, ◌/◌, ◌<◌, ◌≤◌, ◌≢◌, ◌++◌, ◌∷◌, [], List, drop, false, length, Some, OnOk, OnErr, IfOk, slice_index_or, slice_index, vec_len, if◌then◌else◌};
-ghost use Rattle.version_store.specs.Changes.{IsSlotOffset, blocks_for, is_changed, old_in};
+ghost use Rattle.version_store.specs.Changes.{IsSlotOffset, blocks_for, is_changed, is_changed_after, last_time as last_time_of, old_in};
 ghost use Rattle.version_store.specs.Records.{IsFilledTo, change_at, change_from};
 
 use crate::change::{Change, RECORD_LEN};
@@ -23,6 +23,8 @@ pub(crate) const SLOTS_PER_FRAME: usize = BLOCK_LEN / SLOT_LEN;
 pub(crate) struct FrameChanges {
     blocks: Vec<Block>,
     len: usize,
+    /// The time of the last of them, 0 where there are none.
+    last: u32,
 }
 
 impl Model for FrameChanges {
@@ -35,7 +37,7 @@ impl Model for FrameChanges {
 
     ghost view = { λ changes. changes_in changes.blocks.items changes.len };
 
-    ghost invariant = { λ changes. AreOfFrame changes.blocks.items changes.len };
+    ghost invariant = { λ changes. AreOfFrame changes.blocks.items changes.len changes.last };
 }
 
 impl FrameChanges {
@@ -46,6 +48,7 @@ impl FrameChanges {
         FrameChanges {
             blocks: Vec::new(alloc),
             len: 0,
+            last: 0,
         }
     }
 
@@ -54,6 +57,13 @@ impl FrameChanges {
         ensures { result ≡ length self.now }
     {
         self.len
+    }
+
+    /// The time of the last change, 0 where there are none.
+    pub(crate) fn last_time(&self) -> u32
+        ensures { result ≡ last_time_of self.now }
+    {
+        self.last
     }
 
     /// The change with a number.
@@ -95,6 +105,23 @@ impl FrameChanges {
         changed
     }
 
+    /// Which slots of the frame have a change after a time, one after another.
+    pub(crate) fn changed_after(&self, time: u32) -> [bool; SLOTS_PER_FRAME]
+        ensures value { (i : ℕ) → i < 512
+            → slice_index_or result i false ≡ is_changed_after self.now (8 * i) time }
+        ensures len { length result ≡ 512 }
+    {
+        let len = self.len();
+        let mut slots = [false; SLOTS_PER_FRAME];
+        for number in 0..len {
+            let change = self.get(number);
+            if change.time > time {
+                slots[usize::from(change.offset) / SLOT_LEN] = true;
+            }
+        }
+        slots
+    }
+
     /// Adds a change; tells whether it stands in a new block, which is taken from the pool.
     ///
     /// # Errors
@@ -115,6 +142,7 @@ impl FrameChanges {
         let is_new = make_room(&mut self.blocks, self.len, pool)?;
         put_change(&mut self.blocks, self.len, change);
         self.len = len;
+        self.last = self.last.max(change.time);
         Ok(is_new)
     }
 

@@ -1,13 +1,13 @@
 //! The kept changes of memory.
 
-ghost use Rattle.std.specs.Prelude.{◌≡◌, ◌+◌, ◌*◌, ◌/◌, ◌%◌, ◌^◌, ◌≤◌, [], ◌∷◌, ◌++◌, length, None, IfOk, OnOk, OnErr, nat_lt, if◌then◌else◌};
+ghost use Rattle.std.specs.Prelude.{◌≡◌, ℕ, ◌+◌, ◌*◌, ◌/◌, ◌%◌, ◌^◌, ◌<◌, ◌≤◌, false, [], ◌∷◌, ◌++◌, length, None, IfOk, OnOk, OnErr, nat_lt, slice_index_or, if◌then◌else◌};
 ghost use Rattle.std.specs.BTreeMap.{get, insert_entry};
 ghost use Rattle.std.specs.Ordering.{nat_cmp};
-ghost use Rattle.version_store.specs.Changes.{IsSlotOffset, changed_slots, changes_of, kept_blocks, old_at, value_at, with_new_change, with_changes};
+ghost use Rattle.version_store.specs.Changes.{IsSlotOffset, changed_slots, changes_of, is_changed_after, kept_blocks, last_kept_time, last_time as last_time_of, old_at, value_at, with_new_change, with_changes};
 ghost use Rattle.version_store.specs.Spanning.{AreSpans};
 
 use crate::change::Change;
-use crate::frame_changes::FrameChanges;
+use crate::frame_changes::{FrameChanges, SLOTS_PER_FRAME};
 use crate::slots::{Slots, slots_in};
 use crate::spans::{Spans, spans_in};
 use block_pool::Pool;
@@ -31,17 +31,18 @@ pub struct Store {
     frames: BTreeMap<u64, FrameChanges>,
     /// How many blocks they stand in.
     blocks: u64,
+    /// The time of the last of them, 0 where there are none.
+    last: u32,
 }
 
 impl Model for Store {
-    ghost use Rattle.std.specs.Prelude.{◌≡◌};
-    ghost use Rattle.version_store.specs.Changes.{KeptChanges, kept_blocks};
+    ghost use Rattle.version_store.specs.Changes.{AreCounted, KeptChanges};
 
     ghost Value = { KeptChanges };
 
     ghost view = { λ store. store.frames.entries };
 
-    ghost invariant = { λ store. store.blocks ≡ kept_blocks store.frames.entries };
+    ghost invariant = { λ store. AreCounted store.frames.entries store.blocks store.last };
 }
 
 impl Store {
@@ -53,6 +54,7 @@ impl Store {
             alloc,
             frames: BTreeMap::new(alloc),
             blocks: 0,
+            last: 0,
         }
     }
 
@@ -61,6 +63,7 @@ impl Store {
     /// # Errors
     ///
     /// Out of memory, the store is as it was, and so are the pool's blocks in use.
+    #[tactic(auto, using(crate::proofs::LastTimes::last_kept_time_noted))]
     pub fn note(
         &mut self,
         pool: &mut Pool,
@@ -84,7 +87,9 @@ impl Store {
         let Some(more) = self.blocks.checked_add(1) else {
             return Err(AllocError);
         };
-        if note_in(&mut self.frames, self.alloc, pool, frame, change)? {
+        let is_new = note_in(&mut self.frames, self.alloc, pool, frame, change)?;
+        self.last = self.last.max(time);
+        if is_new {
             self.blocks = more;
         }
         Ok(())
@@ -160,6 +165,35 @@ impl Store {
         match self.frames.get(&(frame / FRAME_LEN)) {
             Some(changes) => changes.len() > 0,
             None => false,
+        }
+    }
+
+    /// The time of the last kept change, 0 where none is kept. It takes no memory.
+    pub fn last_time(&self) -> u32
+        ensures { result ≡ last_kept_time self.now }
+    {
+        self.last
+    }
+
+    /// The time of the last kept change of the frame at an address, 0 where it has none. It takes no memory.
+    pub fn last_time_under(&self, frame: u64) -> u32
+        ensures { result ≡ last_time_of (changes_of self.now (frame / 4096)) }
+    {
+        match self.frames.get(&(frame / FRAME_LEN)) {
+            Some(changes) => changes.last_time(),
+            None => 0,
+        }
+    }
+
+    /// Which slots of the frame at an address have a kept change after a time, one after another. It takes no memory.
+    pub fn changed_after(&self, frame: u64, time: u32) -> [bool; SLOTS_PER_FRAME]
+        ensures value { (i : ℕ) → i < 512 → slice_index_or result i false
+            ≡ is_changed_after (changes_of self.now (frame / 4096)) (8 * i) time }
+        ensures len { length result ≡ 512 }
+    {
+        match self.frames.get(&(frame / FRAME_LEN)) {
+            Some(changes) => changes.changed_after(time),
+            None => [false; SLOTS_PER_FRAME],
         }
     }
 

@@ -171,3 +171,40 @@ fn a_write_changes_the_slots_that_are_known(rt: HostRuntime) -> Result<(), Fail>
     assert_eq!(rt; (store.at(0x1008, 2), store.at(0x1010, 1)), (None, None));
     Ok(())
 }
+
+#[test]
+fn the_last_time_is_the_greatest(rt: HostRuntime) -> Result<(), Fail> {
+    let mut pool = Pool::new(rt.alloc());
+    let mut store = Store::new(rt.alloc());
+    assert_eq!(rt; (store.last_time(), store.last_time_under(0x1000)), (0, 0));
+    store.note(&mut pool, 0x1000, 7, 0)?;
+    store.note(&mut pool, 0x2008, 9, 0)?;
+    store.note(&mut pool, 0x1ff8, 3, 0)?;
+    assert_eq!(rt; store.last_time(), 9);
+    assert_eq!(rt; store.last_time_under(0x1000), 7);
+    assert_eq!(rt; store.last_time_under(0x2000), 9);
+    assert_eq!(rt; store.last_time_under(0x3000), 0);
+    Ok(())
+}
+
+#[test]
+fn changes_of_slots_count_after_their_time_alone(rt: HostRuntime) -> Result<(), Fail> {
+    let mut pool = Pool::new(rt.alloc());
+    let mut store = Store::new(rt.alloc());
+    store.note(&mut pool, 0x1000, 7, 0)?;
+    store.note(&mut pool, 0x1ff8, 9, 0)?;
+    store.note(&mut pool, 0x2008, 9, 0)?;
+    let changed = store.changed_after(0x1000, 6);
+    assert_eq!(rt; (changed[0], changed[1], changed[511]), (true, false, true));
+    let changed = store.changed_after(0x1000, 7);
+    assert_eq!(rt;
+        (changed[0], changed[1], changed[511]),
+        (false, false, true)
+    );
+    let changed = store.changed_after(0x3000, 0);
+    assert_eq!(rt;
+        (changed[0], changed[1], changed[511]),
+        (false, false, false)
+    );
+    Ok(())
+}

@@ -1,4 +1,4 @@
-use Rattle.std.proofs.Common.{◌≡◌, ◌+◌, ◌-◌, ◌*◌, ◌⊎◌, None, sym, ◌∙◌, subst, arith, rules}
+use Rattle.std.proofs.Common.{◌≡◌, ◌+◌, ◌-◌, ◌*◌, ◌⊎◌, None, Ok, ap, sym, ◌∙◌, subst, arith, rules}
 use Rattle.std.proofs.lemmas.List.{take_all}
 use Rattle.paging_model.specs.LinearAddress.{span}
 use Rattle.audit_laws.specs.Firsts.{IsFirst}
@@ -13,17 +13,18 @@ use Rattle.stale_audit.proofs.ReferenceLaws.{table-at}
 use Rattle.stale_audit.proofs.TableLaws.{first-all, if_ok-more, slot-first, table-none, table-some, under-begun, under-more}
 use Rattle.stale_audit.proofs.descent.+audit.Goals as goal
 
-pub audit_below-returns : goal.audit_below-returns
-audit_below-returns g t c = if_ok-more _ _ c.audit_table.result
+pub audit_below-returns-clause-first : goal.audit_below-returns-clause-first
+audit_below-returns-clause-first g t c = if_ok-more _ _ c.audit_table.result
     (λ found is. first-all c.args.point.now c.args.in_use.now c.in_ok-timed.timed c.in_ok-timed.ensures.split
     c.args.range.first (c.args.range.first + span c.args.range.level) (c.args.range.level - 1) c.args.table c.args.bits found
-    (rw (c.in_ok-timed.ensures.frame, c.in_ok-timed.ensures.bits) at is)) c.audit_table.ensures
+    (rw (c.in_ok-timed.ensures.frame, c.in_ok-timed.ensures.bits) at is)) c.audit_table.ensures.first
 
 pub audit_slot-loop-lower-init : goal.audit_slot-loop-lower-init
 audit_slot-loop-lower-init g t c = record {
   first = under-begun c.args.point.now c.args.range.first (c.args.range.first + span c.args.range.level) (c.args.range.level - 1)
       (IsLeafFoundIn c.args.point.now c.args.range.first (c.args.range.first + span c.args.range.level) (IsTimeOf (is_in_use c.args.table.now)) c.args.range.level c.args.table.now.frame c.args.table.now.bits)
       c.in_ok-slot.slot.found c.in_ok-slot.ensures.slot.found;
+  known = c.requires.known;
 }
 
 pub audit_slot-loop-lower-preserved : goal.audit_slot-loop-lower-preserved
@@ -34,7 +35,8 @@ audit_slot-loop-lower-preserved g t c = record {
       (IsLeafFoundIn c.args.point.now c.args.range.first (c.args.range.first + span c.args.range.level) (IsTimeOf (is_in_use c.args.table.now)) c.args.range.level c.args.table.now.frame c.args.table.now.bits)
       c.loop-lower.best c.in_ok-found.found c.loop-lower-test.true c.loop-lower.invariant.first
       (subst (λ (one : HeldTable). IsFirst (IsFoundIn c.args.point.now c.args.range.first (c.args.range.first + span c.args.range.level) (IsTimeOf (has_time one.times)) (c.args.range.level - 1) one.frame one.bits) c.in_ok-found.found)
-      c.lower-item.is c.in_ok-found.ensures));
+      c.lower-item.is c.in_ok-found.ensures.first));
+  known = c.audit_below.ensures.known;
 }
 
 pub audit_slot-audit_below-requires : goal.audit_slot-audit_below-requires
@@ -42,36 +44,40 @@ audit_slot-audit_below-requires g t c κs within =
     let lower = table-at c.args.range.level c.deref-lower-items.result.now c.loop-lower.lower-index c.lower-item.result c.loop-lower-test.true c.lower-item.is
     (subst (AreTablesBelow c.args.range.level) (sym c.deref-lower-items.ensures.value) c.in_ok-slot.ensures.tables) in
     let two = lower.0 in let frame = lower.1 in
-    let ready = c.requires.ready in let range = c.requires.range in let home = c.requires.home in let most = c.requires.most in
+    let ready = c.requires.ready in let range = c.requires.range in let home = c.requires.home in let most = c.requires.most in let known = c.loop-lower.invariant.known in
     search rules
 
-pub audit_slot-returns : goal.audit_slot-returns
-audit_slot-returns g t c =
+pub audit_slot-returns-clause-first : goal.audit_slot-returns-clause-first
+audit_slot-returns-clause-first g t c =
     slot-first c.args.point.now c.args.range.first (IsTimeOf (is_in_use c.args.table.now)) c.args.range.level c.args.table.now.frame c.args.table.now.bits c.in_ok-slot.slot c.loop-lower.best
     c.requires.range.least c.in_ok-slot.ensures.slot
     (subst (λ list. IsFirst (λ (one : StalePage). IsLeafFoundIn c.args.point.now c.args.range.first (c.args.range.first + span c.args.range.level) (IsTimeOf (is_in_use c.args.table.now)) c.args.range.level c.args.table.now.frame c.args.table.now.bits one
     ⊎ IsFoundUnder c.args.point.now c.args.range.first (c.args.range.first + span c.args.range.level) (c.args.range.level - 1) list one) c.loop-lower.best)
     (take_all c.loop-lower.lower-index c.deref-lower-items.result.now c.loop-lower-test.false ∙ c.deref-lower-items.ensures.value) c.loop-lower.invariant.first)
 
-pub audit_table-returns-then-is_some : goal.audit_table-returns-then-is_some
-audit_table-returns-then-is_some g t c =
+pub audit_table-returns-then-is_some-clause-first : goal.audit_table-returns-then-is_some-clause-first
+audit_table-returns-then-is_some-clause-first g t c =
     subst (λ n. IsFirst (IsFoundIn c.args.point.now c.args.range.first (c.args.range.first + n) (IsTimeOf (is_in_use c.args.table.now)) (c.args.range.level - 1) c.args.table.now.frame c.args.table.now.bits) c.in_ok-found.found)
     (span-up c.args.range.level c.requires.least)
     (table-some c.args.point.now c.args.range.first (span (c.args.range.level - 1)) c.loop-i.i (IsTimeOf (is_in_use c.args.table.now)) (c.args.range.level - 1) c.args.table.now.frame c.args.table.now.bits
     c.in_ok-found.found c.loop-i-test.true (sym c.is_some.ensures ∙ c.if-is_some.true) c.loop-i.invariant.none
-    (rw (c.slot_range-slot.ensures.level, c.slot_range-slot.ensures.first) at c.in_ok-found.ensures))
+    (rw (c.slot_range-slot.ensures.level, c.slot_range-slot.ensures.first) at c.in_ok-found.ensures.first))
 
 pub audit_table-loop-i-preserved : goal.audit_table-loop-i-preserved
 audit_table-loop-i-preserved g t c = record {
   none = table-none c.args.point.now c.args.range.first (span (c.args.range.level - 1)) c.loop-i.i (IsTimeOf (is_in_use c.args.table.now)) (c.args.range.level - 1) c.args.table.now.frame c.args.table.now.bits
       c.in_ok-found.found c.loop-i-test.true (sym c.is_some.ensures ∙ c.if-is_some.false) c.loop-i.invariant.none
-      (rw (c.slot_range-slot.ensures.level, c.slot_range-slot.ensures.first) at c.in_ok-found.ensures);
+      (rw (c.slot_range-slot.ensures.level, c.slot_range-slot.ensures.first) at c.in_ok-found.ensures.first);
+  known = c.audit_slot.ensures.known;
 }
 
-pub audit_table-returns : goal.audit_table-returns
-audit_table-returns g t c =
+pub audit_table-returns-clause-first : goal.audit_table-returns-clause-first
+audit_table-returns-clause-first g t c =
     let i : c.loop-i.i ≡ 512 = omega arith in
     subst (λ n. IsFirst (IsFoundIn c.args.point.now c.args.range.first (c.args.range.first + n) (IsTimeOf (is_in_use c.args.table.now)) (c.args.range.level - 1) c.args.table.now.frame c.args.table.now.bits) None)
     (span-up c.args.range.level c.requires.least)
     (subst (λ n. IsFirst (IsFoundIn c.args.point.now c.args.range.first (c.args.range.first + n * span (c.args.range.level - 1)) (IsTimeOf (is_in_use c.args.table.now)) (c.args.range.level - 1) c.args.table.now.frame c.args.table.now.bits) None)
     i c.loop-i.invariant.none)
+
+pub audit_below-returns-then-branch-clause-first : goal.audit_below-returns-then-branch-clause-first
+audit_below-returns-then-branch-clause-first g t c one = c.in_ok-is_settled.ensures.settled (ap Ok c.if-branch.true) c.args.in_use.now one

@@ -5,6 +5,7 @@ use Rattle.audit_laws.specs.Leads.{IsTimeOf}
 use Rattle.audit_laws.specs.declared.stale_pages.StalePage.{StalePage}
 use Rattle.stale_audit.specs.Findings.{IsFoundIn, IsFoundUnder, IsLeafFoundIn}
 use Rattle.stale_audit.specs.SlotEntries.{is_in_use}
+use Rattle.stale_audit.specs.SteadyTables.{AreKnownSteady}
 use Rattle.stale_audit.proofs.descent.+audit.Given as goal
 
 abbrev pub decreases-audit_below : goal.decreases-audit_below
@@ -20,6 +21,7 @@ decreases-audit_table g l = 3 * (l.range.level - 1) + 2
 abbrev pub invariant-audit_table-loop-i : goal.invariant-audit_table-loop-i
 invariant-audit_table-loop-i g l = record {
   none : IsFirst (IsFoundIn l.point l.range.first (l.range.first + l.i * span (l.range.level - 1)) (IsTimeOf (is_in_use l.table)) (l.range.level - 1) l.table.frame l.table.bits) None;
+  known : AreKnownSteady l.point l.known;
 }
 
 -- the first finding by the slot's translations and under the tables so far
@@ -27,4 +29,5 @@ abbrev pub invariant-audit_slot-loop-lower : goal.invariant-audit_slot-loop-lowe
 invariant-audit_slot-loop-lower g l = record {
   first : IsFirst (λ (one : StalePage). IsLeafFoundIn l.point l.range.first (l.range.first + span l.range.level) (IsTimeOf (is_in_use l.table)) l.range.level l.table.frame l.table.bits one
       ⊎ IsFoundUnder l.point l.range.first (l.range.first + span l.range.level) (l.range.level - 1) (take l.lower-index l.lower-items) one) l.best;
+  known : AreKnownSteady l.point l.known;
 }

@@ -7,22 +7,23 @@ use Rattle.stale_audit.specs.Tops.{IsFoundBefore, top_first}
 use Rattle.stale_audit.proofs.TopLaws.{from-all, top-done, top-none, top-room, top-some}
 use Rattle.stale_audit.proofs.tops.audit_top.Goals as goal
 
-pub returns-then-is_some : goal.returns-then-is_some
-returns-then-is_some g c =
+pub returns-then-is_some-clause-first : goal.returns-then-is_some-clause-first
+returns-then-is_some-clause-first g c =
     from-all c.args.point.now c.args.in_use.now c.in_ok-table.table c.in_ok-table.ensures.split (top_level c.args.point.now.settings) c.args.root c.in_ok-found.found
     (top-some c.args.point.now (IsTimeOf (is_in_use c.in_ok-table.table)) (top_level c.args.point.now.settings) c.args.root (top-room c.args.point.now.settings) c.loop-i.i c.loop-i-test.true
     c.in_ok-found.found (sym c.is_some.ensures ∙ c.if-is_some.true) c.loop-i.invariant.none
-    (rw (c.top_range-range.ensures.level, c.top_range-range.ensures.first, c.in_ok-table.ensures.frame, c.in_ok-table.ensures.bits) at c.in_ok-found.ensures))
+    (rw (c.top_range-range.ensures.level, c.top_range-range.ensures.first, c.in_ok-table.ensures.frame, c.in_ok-table.ensures.bits) at c.in_ok-found.ensures.first))
 
 pub loop-i-preserved : goal.loop-i-preserved
 loop-i-preserved g c = record {
   none = top-none c.args.point.now (IsTimeOf (is_in_use c.in_ok-table.table)) (top_level c.args.point.now.settings) c.args.root (top-room c.args.point.now.settings) c.loop-i.i c.loop-i-test.true
       c.in_ok-found.found (sym c.is_some.ensures ∙ c.if-is_some.false) c.loop-i.invariant.none
-      (rw (c.top_range-range.ensures.level, c.top_range-range.ensures.first, c.in_ok-table.ensures.frame, c.in_ok-table.ensures.bits) at c.in_ok-found.ensures);
+      (rw (c.top_range-range.ensures.level, c.top_range-range.ensures.first, c.in_ok-table.ensures.frame, c.in_ok-table.ensures.bits) at c.in_ok-found.ensures.first);
+  known = c.audit_slot.ensures.known;
 }
 
-pub returns : goal.returns
-returns g c =
+pub returns-clause-first : goal.returns-clause-first
+returns-clause-first g c =
     let i : c.loop-i.i ≡ 512 = omega arith in
     from-all c.args.point.now c.args.in_use.now c.in_ok-table.table c.in_ok-table.ensures.split (top_level c.args.point.now.settings) c.args.root None
     (top-done c.args.point.now (IsTimeOf (is_in_use c.in_ok-table.table)) (top_level c.args.point.now.settings) c.args.root (top-room c.args.point.now.settings)

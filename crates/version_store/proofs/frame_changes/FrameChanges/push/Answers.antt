@@ -1,6 +1,9 @@
 use Rattle.std.proofs.Common.{◌≡◌, ◌+◌, sym, ap, ◌∙◌, arith}
 use Rattle.std.proofs.lemmas.Grind.{common_steps}
+use Rattle.std.specs.Prelude.{max}
+use Rattle.version_store.specs.Changes.{last_time}
 use Rattle.version_store.specs.Records.{changes_in, IsFilledTo}
+use Rattle.version_store.proofs.LastTimes.{last_time-push, offsets-pushed}
 use Rattle.version_store.proofs.Packing.{changes_in-push, blocks-pushed, blocks-counted}
 use Rattle.version_store.proofs.frame_changes.FrameChanges.push.Goals as goal
 
@@ -30,3 +33,20 @@ returns-clause-counts c =
     record { room = omega (arith, len); full = omega (arith, len) } in
     rw (sym c.self.view_is)
     (blocks-counted c.self.inside.blocks.items c.put_change.new.blocks.items c.self.inside.len c.in-Some.len _ _ c.self.invariant.filled filled (let counts = c.make_room.ensures.counts in omega (arith, counts)))
+
+pub invariant_of-self-2 : goal.invariant_of-self-2
+invariant_of-self-2 c =
+    let len : c.in-Some.len ≡ c.self.inside.len + 1 = grind (arith, common_steps) in
+    let filled : IsFilledTo c.put_change.new.blocks.items c.in-Some.len =
+    let room = c.in_ok-is_new.ensures.ok.room in
+    let full = c.in_ok-is_new.ensures.ok.full in
+    record { room = omega (arith, len); full = omega (arith, len) } in
+    record {
+      filled = filled;
+      slots = λ i below. offsets-pushed c.self.inside.blocks.items c.make_room.new.blocks.items c.put_change.new.blocks.items c.self.inside.len c.args.change c.self.invariant.filled
+          (λ k within. c.in_ok-is_new.ensures.same k (omega arith)) c.put_change.ensures.value c.put_change.ensures.others c.requires c.self.invariant.slots i (omega (arith, len, below));
+      last_is = c.max-self-inside.ensures ∙ (ap (λ n. max n c.args.change.time) c.self.invariant.last_is
+          ∙ (sym (last_time-push (changes_in c.self.inside.blocks.items c.self.inside.len) c.args.change)
+          ∙ sym (ap last_time (ap (changes_in c.put_change.new.blocks.items) len
+          ∙ changes_in-push c.self.inside.blocks.items c.make_room.new.blocks.items c.put_change.new.blocks.items c.self.inside.len c.args.change c.self.invariant.filled (λ k below. c.in_ok-is_new.ensures.same k (omega arith)) c.put_change.ensures.value c.put_change.ensures.others))));
+    }

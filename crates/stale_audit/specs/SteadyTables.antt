@@ -1,0 +1,40 @@
+-- Tables that serve addresses as they did at each time since the horizon. Our own words.
+use Rattle.std.specs.Prelude.{◌≡◌, ℕ, zero, suc, ◌+◌, ◌-◌, ◌*◌, ◌%◌, ◌≤◌, ◌<◌, Bool, true, false, if◌then◌else◌, Option, Some, None, option_map}
+use Rattle.std.specs.BTreeMap.{BTreeMap, get}
+use Rattle.std.specs.Ordering.{nat_cmp}
+use Rattle.paging_model.specs.Entries.{entry_of}
+use Rattle.paging_model.specs.Memory.{entry_at}
+use Rattle.paging_model.specs.declared.entries.Bits.{Bits}
+use Rattle.paging_model.specs.declared.entries.Entry.{Entry}
+use Rattle.paging_model.specs.declared.entries.Entry.TheVariants as entry
+use Rattle.phys_view.specs.Seen.{memory_of}
+use Rattle.time_sets.specs.Sets.{has_time}
+use Rattle.version_store.specs.Changes.{old_at}
+use Rattle.stale_audit.specs.Facts.{Facts}
+
+-- at each time of the processor in the PCID, NXE was what it is now
+abbrev pub HadOneNxe : Facts → Type 0
+HadOneNxe facts = (t : ℕ) → has_time (if facts.settings.nxe then facts.nxe_clear else facts.nxe_set) t ≡ false
+
+-- what a slot means now as an entry of a level
+abbrev pub meaning_now : Facts → ℕ → ℕ → Option Entry
+meaning_now facts level slot =
+    option_map (λ value. entry_of level facts.settings value) (entry_at (memory_of facts.seen) slot)
+
+-- no slot of a table of a level changed after the horizon, nor one of the tables below
+abbrev pub IsSteadyTable : Facts → ℕ → ℕ → Type 0
+IsSteadyTable facts zero table = Unit {0}
+IsSteadyTable facts (suc lower) table = (i : ℕ) → i < 512
+    → (old_at facts.kept (table + 8 * i) facts.host.horizon ≡ None)
+    × ((frame : ℕ) (bits : Bits) → meaning_now facts (suc lower) (table + 8 * i) ≡ Some (entry.Table frame bits)
+    → IsSteadyTable facts lower frame)
+
+-- the same of the table that the entry of a level at a slot references
+abbrev pub IsSteadyBelow : Facts → ℕ → ℕ → Type 0
+IsSteadyBelow facts level slot = (frame : ℕ) (bits : Bits)
+    → meaning_now facts level slot ≡ Some (entry.Table frame bits) → IsSteadyTable facts (level - 1) frame
+
+-- each table that is known as steady, by its address plus its level, is so
+pub record AreKnownSteady (facts : Facts) (known : BTreeMap ℕ Bool) : Type 0 where
+  pub each : (level table : ℕ) → level ≤ 5 → table % 4096 ≡ 0 → get nat_cmp known (table + level) ≡ Some true
+      → IsSteadyTable facts level table
