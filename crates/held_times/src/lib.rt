@@ -4,3 +4,6 @@
 mod times;
 
 pub use times::{held_times, is_held};
+
+#[cfg(test)]
+mod tests;

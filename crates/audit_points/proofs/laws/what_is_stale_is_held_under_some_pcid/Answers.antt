@@ -1,5 +1,5 @@
 use Rattle.audit_points.proofs.PointLaws.{some-stale, stale-some}
-use Rattle.audit_points.proofs.what_is_stale_is_held_under_some_pcid.Goals as goal
+use Rattle.audit_points.proofs.laws.what_is_stale_is_held_under_some_pcid.Goals as goal
 
 pub returns : goal.returns
 returns c facts history pcid one is_known settings_is home_is =

@@ -1,5 +1,5 @@
 use Rattle.audit_points.proofs.NotedLaws.{later-is, new-is, noted-is}
-use Rattle.audit_points.proofs.hosts_stay_auditable.Goals as goal
+use Rattle.audit_points.proofs.laws.hosts_stay_auditable.Goals as goal
 
 pub returns-clause-new : goal.returns-clause-new
 returns-clause-new c number known machine = new-is number known machine
