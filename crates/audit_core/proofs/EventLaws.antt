@@ -21,12 +21,12 @@ use Rattle.history_model.specs.declared.events.Event.{Event}
 use Rattle.history_model.specs.declared.events.Event.TheVariants as event
 use Rattle.history_model.specs.declared.faults.StepFault.{StepFault}
 use Rattle.history_model.specs.declared.faults.StepFault.TheVariants as fault
-use Rattle.block_pool.specs.Blocks.{Counts}
 use Rattle.elf_core.specs.declared.core_file.Core.{Core}
 use Rattle.phys_view.specs.Seen.{Seen, memory_of, written_pages}
-use Rattle.phys_view.specs.Writes.{WritesBytes}
+use Rattle.version_store.specs.WrittenChanges.{kept_changes}
 use Rattle.cache_rules.specs.Hosts.{Keeping, new_host}
 use Rattle.audit_core.specs.HostLists.{AreHostsOf, AreNewHosts, Invalidates, Notes, NotesAt, SetsRegister, insert_host, processor_of, processors_of}
+use Rattle.audit_core.specs.Remembering.{KeepsWrite, Remembering}
 use Rattle.audit_core.specs.ProcessorNumbers.{HaveDistinctNumbers, known_invpcid_refusal, set_refusal}
 use Rattle.audit_core.specs.Standing.{Holding, HasAllOf, core_start}
 use Rattle.audit_core.specs.Stepping.{AcceptsEvent}
@@ -38,6 +38,11 @@ use Rattle.audit_core.proofs.ProcessorNumbers.{set_at}
 -- a session after an event that leaves it these hosts
 abbrev pub with_hosts : Holding → List Keeping → Holding
 with_hosts holding hosts = record holding { happened = holding.happened + 1; hosts = hosts }
+
+-- a session with other memory, after an event
+abbrev pub with_memory : Holding → Remembering → Holding
+with_memory holding memory =
+    record holding { happened = holding.happened + 1; seen = memory.seen; kept = memory.kept }
 
 sym-false : (m n : ℕ) → (m == n) ≡ false → (n == m) ≡ false
 sym-false m n h = ne_eqb n m (λ is. eqb-false m n h (sym is))
@@ -94,13 +99,15 @@ noted-stands : (holding : Holding) (moment : History) (cpu : ℕ) (happened : Ev
     → (notes : Notes (holding.happened + 1) cpu happened changed holding.hosts hosts) → LeavesOthers moment cpu happened
     → regs (next moment happened) cpu ≡ Some (changed notes.known) → la57 (changed notes.known) ≡ la57 notes.known
     → processors (next moment happened) ≡ processors_of hosts → memory (next moment happened) ≡ memory moment
-    → pages (next moment happened) ≡ pages moment → HasAllOf (with_hosts holding hosts) (next moment happened)
-noted-stands holding moment cpu happened changed hosts has notes leaves is_known levels procs same_memory same_pages = record {
+    → pages (next moment happened) ≡ pages moment → kept_changes (next moment happened) ≡ kept_changes moment
+    → HasAllOf (with_hosts holding hosts) (next moment happened)
+noted-stands holding moment cpu happened changed hosts has notes leaves is_known levels procs same_memory same_pages same_changes = record {
   unpoisoned = has.unpoisoned;
   time_is = ap (λ n. n + 1) has.time_is;
   segments_are = has.segments_are;
   pages_are = same_pages ∙ has.pages_are;
   memory_is = same_memory ∙ has.memory_is;
+  changes_are = has.changes_are ∙ sym same_changes;
   stated_is = has.stated_is;
   machine_is = has.machine_is;
   processors_are = procs;
@@ -162,7 +169,7 @@ set-accepted holding cpu made hosts accepted notes = record {
       (others-left-by-set moment cpu made)
       (set_in-own cpu made (processors moment) notes.known (rw has.processors_are notes.is_known))
       (la57-kept holding.machine made notes.known (rw notes.is_known at accepted))
-      (rw has.processors_are (set-processors holding.hosts hosts (holding.happened + 1) cpu made notes)) refl refl;
+      (rw has.processors_are (set-processors holding.hosts hosts (holding.happened + 1) cpu made notes)) refl refl refl;
 }
 
 -- INVLPG is executed
@@ -177,7 +184,7 @@ invlpg-accepted holding cpu address hosts accepted notes = record {
       noted-stands holding moment cpu (event.Invlpg cpu address) (λ known. known) hosts has notes
       (record { spares = λ n other. sym-false n cpu other; keeps = λ n other. refl })
       (rw has.processors_are notes.is_known) refl
-      (rw has.processors_are (invalidated-processors holding.hosts hosts (holding.happened + 1) cpu (event.Invlpg cpu address) notes)) refl refl;
+      (rw has.processors_are (invalidated-processors holding.hosts hosts (holding.happened + 1) cpu (event.Invlpg cpu address) notes)) refl refl refl;
 }
 
 -- INVPCID is executed
@@ -192,12 +199,31 @@ invpcid-accepted holding cpu kind pcid address hosts accepted notes = record {
       noted-stands holding moment cpu (event.Invpcid cpu kind pcid address) (λ known. known) hosts has notes
       (record { spares = λ n other. sym-false n cpu other; keeps = λ n other. refl })
       (rw has.processors_are notes.is_known) refl
-      (rw has.processors_are (invalidated-processors holding.hosts hosts (holding.happened + 1) cpu (event.Invpcid cpu kind pcid address) notes)) refl refl;
+      (rw has.processors_are (invalidated-processors holding.hosts hosts (holding.happened + 1) cpu (event.Invpcid cpu kind pcid address) notes)) refl refl refl;
 }
 
 -- ---- an event that was carried out, or not
 
--- what the session says of an event, by what came of it
+-- what the session says of an event that leaves it so, by what came of it
+said-so : (done : Result (Unit {0}) StepFault) (said : Result Answer StepFault) (holding left : Holding)
+    (later : ℕ) (poisoned : Bool) (happened : Event) → OnOk done (said ≡ Ok Nothing)
+    → IfErr done (λ fault. said ≡ Err fault) → OnOk done (later ≡ holding.happened + 1)
+    → (done ≢ Err fault.Memory → poisoned ≡ holding.poisoned)
+    → OnOk done (AcceptsEvent HasAllOf holding
+    (record left { happened = holding.happened + 1; poisoned = holding.poisoned }) happened Nothing)
+    → IfOk said (AcceptsEvent HasAllOf holding (record left { happened = later; poisoned = poisoned }) happened)
+said-so (Ok u) said holding left later poisoned happened answer why_not counted stays accepted =
+    subst (λ one. IfOk one (AcceptsEvent HasAllOf holding (record left { happened = later; poisoned = poisoned }) happened))
+    (sym answer)
+    (subst (λ on. AcceptsEvent HasAllOf holding (record left { happened = later; poisoned = on }) happened Nothing)
+    (sym (stays (λ is. cc)))
+    (subst (λ n. AcceptsEvent HasAllOf holding (record left { happened = n; poisoned = holding.poisoned }) happened Nothing)
+    (sym counted) accepted))
+said-so (Err why) said holding left later poisoned happened answer why_not counted stays accepted =
+    subst (λ one. IfOk one (AcceptsEvent HasAllOf holding (record left { happened = later; poisoned = poisoned }) happened))
+    (sym why_not) tt
+
+-- of one that leaves it these hosts
 pub said-of : (done : Result (Unit {0}) StepFault) (said : Result Answer StepFault) (holding : Holding) (hosts : List Keeping)
     (later : ℕ) (poisoned : Bool) (happened : Event) → OnOk done (said ≡ Ok Nothing)
     → IfErr done (λ fault. said ≡ Err fault) → OnOk done (later ≡ holding.happened + 1)
@@ -205,15 +231,17 @@ pub said-of : (done : Result (Unit {0}) StepFault) (said : Result Answer StepFau
     → OnOk done (AcceptsEvent HasAllOf holding (with_hosts holding hosts) happened Nothing)
     → IfOk said (AcceptsEvent HasAllOf holding
     (record holding { happened = later; hosts = hosts; poisoned = poisoned }) happened)
-said-of (Ok u) said holding hosts later poisoned happened answer why_not counted stays accepted =
-    subst (λ one. IfOk one (AcceptsEvent HasAllOf holding (record holding { happened = later; hosts = hosts; poisoned = poisoned }) happened))
-    (sym answer)
-    (subst (λ on. AcceptsEvent HasAllOf holding (record holding { happened = later; hosts = hosts; poisoned = on }) happened Nothing)
-    (sym (stays (λ is. cc)))
-    (subst (λ n. AcceptsEvent HasAllOf holding (record holding { happened = n; hosts = hosts }) happened Nothing) (sym counted) accepted))
-said-of (Err why) said holding hosts later poisoned happened answer why_not counted stays accepted =
-    subst (λ one. IfOk one (AcceptsEvent HasAllOf holding (record holding { happened = later; hosts = hosts; poisoned = poisoned }) happened))
-    (sym why_not) tt
+said-of done said holding hosts = said-so done said holding (record holding { hosts = hosts })
+
+-- of one that leaves it this memory
+pub said-of-memory : (done : Result (Unit {0}) StepFault) (said : Result Answer StepFault) (holding : Holding)
+    (memory : Remembering) (later : ℕ) (poisoned : Bool) (happened : Event) → OnOk done (said ≡ Ok Nothing)
+    → IfErr done (λ fault. said ≡ Err fault) → OnOk done (later ≡ holding.happened + 1)
+    → (done ≢ Err fault.Memory → poisoned ≡ holding.poisoned)
+    → OnOk done (AcceptsEvent HasAllOf holding (with_memory holding memory) happened Nothing)
+    → IfOk said (AcceptsEvent HasAllOf holding
+    (record holding { happened = later; seen = memory.seen; kept = memory.kept; poisoned = poisoned }) happened)
+said-of-memory done said holding memory = said-so done said holding (record holding { seen = memory.seen; kept = memory.kept })
 
 -- both of two facts hold where something was done
 pub on_both : {E : Type 0} (P Q : Type 0) (done : Result (Unit {0}) E) → OnOk done P → OnOk done Q → OnOk done (P × Q)
@@ -223,19 +251,19 @@ on_both P Q (Err _) p q = tt
 -- ---- events that no processor executes
 
 -- bytes are written
-pub write-accepted : (holding : Holding) (later : Seen) (before after : Counts) (at : ℕ) (bytes : List ℕ)
-    → WritesBytes holding.seen later before after at bytes
-    → AcceptsEvent HasAllOf holding (record holding { happened = holding.happened + 1; seen = later })
-    (event.Write at bytes) Nothing
-write-accepted holding later before after at bytes writes = record {
-  unrefused = λ moment has. rw (has.memory_is, has.pages_are) writes.unrefused;
+pub write-accepted : (holding : Holding) (memory : Remembering) (at : ℕ) (bytes : List ℕ)
+    → KeepsWrite (record { seen = holding.seen; kept = holding.kept }) memory (holding.happened + 1) at bytes
+    → AcceptsEvent HasAllOf holding (with_memory holding memory) (event.Write at bytes) Nothing
+write-accepted holding memory at bytes keeps = record {
+  unrefused = λ moment has. rw (has.memory_is, has.pages_are) keeps.writes.unrefused;
   answered = λ moment has. refl;
   stands = λ moment has. record {
     unpoisoned = has.unpoisoned;
     time_is = ap (λ n. n + 1) has.time_is;
-    segments_are = has.segments_are ∙ sym writes.extents;
-    pages_are = ap (with_number (page_of at)) has.pages_are ∙ sym writes.pages;
-    memory_is = ap (with_bytes at bytes) has.memory_is ∙ sym (λ i a. writes.memory a i);
+    segments_are = has.segments_are ∙ sym keeps.writes.extents;
+    pages_are = ap (with_number (page_of at)) has.pages_are ∙ sym keeps.writes.pages;
+    memory_is = ap (with_bytes at bytes) has.memory_is ∙ sym (λ i a. keeps.writes.memory a i);
+    changes_are = keeps.keeps ∙ rw (has.changes_are, has.memory_is, has.time_is) refl;
     stated_is = has.stated_is;
     machine_is = has.machine_is;
     processors_are = has.processors_are;
@@ -258,6 +286,7 @@ ask-accepted holding cpu access pointer known said found is = record {
     segments_are = has.segments_are;
     pages_are = has.pages_are;
     memory_is = has.memory_is;
+    changes_are = has.changes_are;
     stated_is = has.stated_is;
     machine_is = has.machine_is;
     processors_are = has.processors_are;
@@ -287,6 +316,7 @@ stated-stands holding number known none start has = record {
   segments_are = has.segments_are;
   pages_are = has.pages_are;
   memory_is = has.memory_is;
+  changes_are = has.changes_are;
   stated_is = has.stated_is;
   machine_is = has.machine_is;
   processors_are =
@@ -316,24 +346,27 @@ cpu-accepted holding number known accepted none = record {
 -- ---- the beginning
 
 -- a session of a core has all that its beginning has
-pub core-stands : (core : Core) (seen : Seen) (hosts : List Keeping) → seen ≡ record { extents = core.segments; written = [] }
-    → ((a : ℕ) → memory_of seen a ≡ byte_in core.segments a)
+pub core-stands : (core : Core) (memory : Remembering) (hosts : List Keeping)
+    → memory.seen ≡ record { extents = core.segments; written = [] }
+    → ((a : ℕ) → memory_of memory.seen a ≡ byte_in core.segments a) → memory.kept ≡ []
     → processors_of hosts ≡ insert_processors [] core.processors → AreNewHosts core.machine hosts
     → HaveDistinctNumbers (processors_of hosts)
     → HasAllOf (record {
       poisoned = false;
       happened = 0;
-      seen = seen;
+      seen = memory.seen;
+      kept = memory.kept;
       stated = core.stated;
       machine = core.machine;
       hosts = hosts;
     }) (begun (core_start core))
-core-stands core seen hosts is memory_is processors_are new distinct = record {
+core-stands core memory hosts is memory_is unchanged processors_are new distinct = record {
   unpoisoned = refl;
   time_is = refl;
   segments_are = ap (λ (one : Seen). one.extents) (sym is);
   pages_are = ap written_pages (sym is);
   memory_is = λ i a. sym (memory_is a) i;
+  changes_are = unchanged;
   stated_is = refl;
   machine_is = refl;
   processors_are = sym processors_are;

@@ -5,3 +5,7 @@ mod NotingLaws
 mod EventLaws
 mod Accepting
 mod SpaceLists
+mod AuditableHosts
+mod PointLaws
+mod OldEntries
+mod Writing

@@ -54,7 +54,7 @@ la57-kept on (change.Pkrs value) known h = refl
 
 -- ---- what an event leaves of the others
 
-same_or_not : (k index : ℕ) → (k ≡ index) ⊎ (k ≢ index)
+pub same_or_not : (k index : ℕ) → (k ≡ index) ⊎ (k ≢ index)
 same_or_not k index = by_test (k == index) refl
   where
     by_test : (b : Bool) → (k == index) ≡ b → (k ≡ index) ⊎ (k ≢ index)

@@ -1,10 +1,10 @@
 -- What the list of a processor's space is in a moment that a session stands for, and in how many steps it is made.
-use Rattle.std.proofs.Common.{◌≡◌, ℕ, ◌+◌, ◌*◌, ◌≤◌, Some, None, Result, Ok, Err, OnOk, refl, ap, arith}
+use Rattle.std.proofs.Common.{◌≡◌, ℕ, ◌+◌, ◌*◌, ◌≤◌, Bool, List, length, Some, None, Result, Ok, Err, OnOk, refl, ap, arith}
 use Rattle.paging_model.specs.declared.access.Access.{Access}
 use Rattle.paging_model.specs.declared.registers.Regs.{Regs}
 use Rattle.history_model.specs.Answering.{Answers, AnswersList}
 use Rattle.history_model.specs.History.{History, after_event, regs, regs_in}
-use Rattle.history_model.specs.KeptSpaces.{space_of}
+use Rattle.history_model.specs.KeptSpaces.{slots_written, space_of}
 use Rattle.history_model.specs.Refusals.{refusal}
 use Rattle.history_model.specs.declared.answers.Answer.{Answer}
 use Rattle.history_model.specs.declared.events.Event.TheVariants as event
@@ -33,6 +33,7 @@ list-stands holding moment cpu has = record {
   segments_are = has.segments_are;
   pages_are = has.pages_are;
   memory_is = has.memory_is;
+  changes_are = has.changes_are;
   stated_is = has.stated_is;
   machine_is = has.machine_is;
   processors_are = has.processors_are;
@@ -66,7 +67,7 @@ list-steps holding cpu known old new found takes moment has = record {
 }
 
 -- what holds at any answer holds at one that is no error
-on_ok : {T E : Type 0} (result : Result T E) (X : Type 0) → X → OnOk result X
+pub on_ok : {T E : Type 0} (result : Result T E) (X : Type 0) → X → OnOk result X
 on_ok (Ok answer) X x = x
 on_ok (Err fault) X x = tt
 
@@ -74,3 +75,17 @@ pub ask-steps : {T E : Type 0} (result : Result T E) (cpu : ℕ) (access : Acces
     → (moment : History) → OnOk result (TakesSteps moment (event.Ask cpu access pointer) old new)
 ask-steps result cpu access pointer old new few moment =
     on_ok result _ (record { steps = 5; bound = omega arith; within = few })
+
+pub write-steps : (moment : History) (at : ℕ) (bytes : List ℕ) (old new : ℕ) → new ≤ old + slots_written at (length bytes)
+    → TakesSteps moment (event.Write at bytes) old new
+write-steps moment at bytes old new few = record {
+  steps = slots_written at (length bytes);
+  bound = le-self (slots_written at (length bytes));
+  within = few;
+}
+  where
+    le-self : (n : ℕ) → n ≤ n
+    le-self n = omega arith
+
+pub point-steps : (moment : History) (all : Bool) (old new : ℕ) → TakesSteps moment (event.Point all) old new
+point-steps moment all old new = record { steps = new; bound = tt; within = omega arith }

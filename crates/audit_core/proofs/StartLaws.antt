@@ -125,15 +125,24 @@ all_underway machine hosts all index end underway =
     drop_all (one ∷ rest) (suc n) h = drop_all rest n (omega arith)
 
 -- a new host has noted nothing after the beginning
-pub before_with_one : (hosts new : List Keeping) (number : ℕ) (known : Regs) (machine : Machine) (time : ℕ)
-    → AreBefore (time + 1) hosts → new ≡ insert_host (new_host number known machine) hosts → AreBefore (time + 1) new
-before_with_one hosts new number known machine time before is =
-    subst (AreBefore (time + 1)) (sym is)
-    (all_insert_host (λ host. IsBefore host (time + 1)) (new_host number known machine) hosts (record {
-      removals = λ k d within. absurd (omega arith);
-      past = one-before;
-    }) before)
+new-before : (number : ℕ) (known : Regs) (machine : Machine) (time : ℕ) → IsBefore (new_host number known machine) (time + 1)
+new-before number known machine time = record {
+  removals = λ k d within. absurd (omega arith);
+  past = one-before;
+}
   where
     one-before : (k d : ℕ) → k < 1 → get_or (0 ∷ []) k d < time + 1
     one-before zero d within = omega arith
     one-before (suc k) d within = absurd (omega arith)
+
+pub new_hosts_before : (machine : Machine) (hosts : List Keeping) → AreNewHosts machine hosts → AreBefore 1 hosts
+new_hosts_before machine hosts new k d within =
+    let host = get_or hosts k d in
+    subst (λ (one : Keeping). IsBefore one 1) (sym (new k d within)) (new-before host.number host.regs machine 0)
+
+pub before_with_one : (hosts new : List Keeping) (number : ℕ) (known : Regs) (machine : Machine) (time : ℕ)
+    → AreBefore (time + 1) hosts → new ≡ insert_host (new_host number known machine) hosts → AreBefore (time + 1) new
+before_with_one hosts new number known machine time before is =
+    subst (AreBefore (time + 1)) (sym is)
+    (all_insert_host (λ host. IsBefore host (time + 1)) (new_host number known machine) hosts
+    (new-before number known machine time) before)

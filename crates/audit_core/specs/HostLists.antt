@@ -11,6 +11,7 @@ use Rattle.history_model.specs.declared.events.Event.{Event}
 use Rattle.history_model.specs.declared.events.Event.TheVariants as event
 use Rattle.cache_rules.specs.Hosts.{Keeping, IsBefore, IsNoted, new_host}
 use Rattle.cache_rules.specs.Standing.{IsHostOf}
+use Rattle.audit_points.specs.Audits.{IsAuditable}
 use Rattle.audit_core.specs.ProcessorNumbers.{HaveDistinctNumbers}
 
 -- the processor of a host, with its present registers
@@ -41,6 +42,10 @@ AreHostsOf history hosts = All (λ host. IsHostOf host history) hosts
 -- each has noted nothing at a time or later
 abbrev pub AreBefore : ℕ → List Keeping → Type 0
 AreBefore t hosts = All (λ host. IsBefore host t) hosts
+
+-- each can be audited at a time
+abbrev pub AreAuditable : ℕ → List Keeping → Type 0
+AreAuditable now hosts = All (λ host. IsAuditable host now) hosts
 
 -- each is what is kept before the first event
 abbrev pub AreNewHosts : Machine → List Keeping → Type 0

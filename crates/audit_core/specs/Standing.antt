@@ -7,6 +7,8 @@ use Rattle.phys_view.specs.Seen.{Seen, memory_of, written_pages}
 use Rattle.elf_core.specs.Cores.{IsConsistent}
 use Rattle.history_model.specs.History.{Start, History, begun, start_of as beginning, memory, machine, pages, insert_processors, processors, time}
 use Rattle.history_model.specs.Refusals.{LeadsTo}
+use Rattle.version_store.specs.Changes.{KeptChanges}
+use Rattle.version_store.specs.WrittenChanges.{kept_changes}
 use Rattle.audit_core.specs.HostLists.{AreHostsOf, processors_of}
 
 -- what a core states
@@ -18,24 +20,27 @@ core_start core = record {
   processors = insert_processors [] core.processors;
 }
 
--- what a session holds: whether it is poisoned (memory ran out), the number of events so far, known memory, the machine
--- and whether it is stated, and what is kept of each processor, in ascending order of their numbers
+-- what a session holds: whether it is poisoned (memory ran out), the number of events so far, known memory and what writes
+-- changed of it, the machine and whether it is stated, and what is kept of each processor, in ascending order of their
+-- numbers
 pub record Holding : Type 0 where
   pub poisoned : Bool
   pub happened : ℕ
   pub seen : Seen
+  pub kept : KeptChanges
   pub stated : Bool
   pub machine : Machine
   pub hosts : List Keeping
 
--- a session that isn't poisoned has all that a moment has: its memory too, the pages that were written to, and the past of
--- each processor
+-- a session that isn't poisoned has all that a moment has: its memory too, the pages that were written to, the changes that
+-- all writes made, and the past of each processor
 pub record HasAllOf (holding : Holding) (moment : History) : Type 0 where
   pub unpoisoned : holding.poisoned ≡ false
   pub time_is : time moment ≡ holding.happened
   pub segments_are : (beginning moment).extents ≡ holding.seen.extents
   pub pages_are : pages moment ≡ written_pages holding.seen
   pub memory_is : memory moment ≡ memory_of holding.seen
+  pub changes_are : holding.kept ≡ kept_changes moment
   pub stated_is : (beginning moment).stated ≡ holding.stated
   pub machine_is : machine moment ≡ holding.machine
   pub processors_are : processors moment ≡ processors_of holding.hosts

@@ -14,7 +14,7 @@ use Rattle.history_model.specs.declared.faults.StepFault.{StepFault}
 use Rattle.audit_core.specs.Standing.{Holding}
 
 -- memory may run out at the event: the list of processors grows with it, or the past of one, a page that is written to
--- needs a block, or a space is built
+-- needs a block, or what it held, a space is built, or the processors are audited
 abbrev pub may_run_out : Event → Bool
 may_run_out (event.Cpu _ _) = true
 may_run_out (event.Write _ _) = true
@@ -22,14 +22,16 @@ may_run_out (event.Set _ _) = true
 may_run_out (event.Invlpg _ _) = true
 may_run_out (event.Invpcid _ _ _ _) = true
 may_run_out (event.List _) = true
+may_run_out (event.Point _) = true
 may_run_out _ = false
 
--- how many steps an accepted event may take, in the moment before it: a write one for each of its slots, and a list as many
--- as its space takes to be built
+-- how many steps an accepted event may take, in the moment before it: a write one for each of its slots, a list as many as
+-- its space takes to be built, and a point any number
 abbrev pub StepsMayBe : History → Event → ℕ → Type 0
 StepsMayBe moment (event.Write at bytes) steps = steps ≤ slots_of (event.Write at bytes)
 StepsMayBe moment (event.List cpu) steps =
     (key : SpaceKey) × (space moment cpu ≡ Some key) × BuildMayTake moment key steps
+StepsMayBe moment (event.Point all) steps = Unit {0}
 StepsMayBe moment _ steps = steps ≤ 5
 
 -- it takes no more, of those before and after it

@@ -74,6 +74,13 @@ impl Hosts {
         self.items.len()
     }
 
+    /// Borrows them.
+    pub fn as_slice(&self) -> &[Host]
+        ensures { result.now ≡ self.now }
+    {
+        self.items.as_slice()
+    }
+
     /// The registers of a processor, by its number.
     pub fn regs(&self, cpu: u32) -> Option<&Regs>
         ensures { option_copied result ≡ regs_in (processors_of self.now) cpu }

@@ -8,6 +8,8 @@
 mod asking;
 mod hosts;
 mod listing;
+mod memory;
+mod old_entries;
 mod session;
 
 pub use session::Session;

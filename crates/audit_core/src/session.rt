@@ -4,14 +4,17 @@ ghost use Rattle.std.specs.Prelude.{◌≡◌, ◌≢◌, ◌<◌, ◌≤◌, �
 ghost use Rattle.elf_core.specs.Cores.{IsConsistent};
 ghost use Rattle.history_model.specs.History.{History, begun, regs_in};
 ghost use Rattle.history_model.specs.Refusals.{cpu_refusal};
+ghost use Rattle.history_model.specs.KeptSpaces.{slots_written};
 ghost use Rattle.phys_view.specs.Seen.{written_pages};
+ghost use Rattle.version_store.specs.Changes.{kept_blocks};
 ghost use Rattle.audit_core.specs.HostLists.{processors_of};
 ghost use Rattle.audit_core.specs.Standing.{HasAllOf, StandsFor, core_start};
 ghost use Rattle.audit_core.specs.Stepping.{AcceptsEvent, RefusesEvent, RunsOutOfMemory, TakesSteps, refused_step_limit};
 
 use crate::hosts::Hosts;
+use crate::memory::Remembered;
 use crate::{asking, listing};
-use block_pool::Pool;
+use audit_points::audit;
 use elf_core::Core;
 use history_model::answers::Answer;
 use history_model::events::Event;
@@ -19,7 +22,7 @@ use history_model::faults::StepFault;
 use paging_model::access::Access;
 use paging_model::byte_strings::Payload;
 use paging_model::registers::{Machine, PROCESSOR_LIMIT, RegChange, Regs};
-use phys_view::{Ledger, Steps, View, WriteFault};
+use phys_view::{Ledger, Steps};
 use proc_regs::check;
 use std::alloc::{AllocError, Global};
 use std::marker::Model;
@@ -30,9 +33,7 @@ use std::marker::Model;
 #[derive(Drop)]
 pub struct Session<'a, L: Ledger> {
     alloc: Global,
-    view: View<'a, L>,
-    /// The blocks of the pages that were written to.
-    pool: Pool,
+    memory: Remembered<'a, L>,
     machine: Machine,
     stated: bool,
     hosts: Hosts,
@@ -41,8 +42,8 @@ pub struct Session<'a, L: Ledger> {
 }
 
 impl<'a, L: Ledger> Model for Session<'a, L> {
-    ghost use Rattle.std.specs.Prelude.{◌≡◌, ◌+◌, length};
-    ghost use Rattle.audit_core.specs.HostLists.{AreBefore};
+    ghost use Rattle.std.specs.Prelude.{◌+◌};
+    ghost use Rattle.audit_core.specs.HostLists.{AreAuditable, AreBefore};
     ghost use Rattle.audit_core.specs.Standing.{Holding};
 
     ghost Value = { Holding };
@@ -50,15 +51,15 @@ impl<'a, L: Ledger> Model for Session<'a, L> {
     ghost view = { λ s. record {
       poisoned = s.poisoned;
       happened = s.happened;
-      seen = s.view;
+      seen = s.memory.seen;
+      kept = s.memory.kept;
       stated = s.stated;
       machine = s.machine;
       hosts = s.hosts;
     } };
 
-    // Each written page has one block of the pool, and nothing was noted at a time to come.
-    ghost invariant = { λ s. (s.pool.live ≡ length s.view.written)
-        × AreBefore (s.happened + 1) s.hosts };
+    // Nothing was noted at a time to come, and each processor can be audited now.
+    ghost invariant = { λ s. AreBefore (s.happened + 1) s.hosts × AreAuditable s.happened s.hosts };
 }
 
 impl<'a, L: Ledger> Session<'a, L> {
@@ -74,8 +75,7 @@ impl<'a, L: Ledger> Session<'a, L> {
         let hosts = Hosts::from_slice(alloc, &core.machine, core.processors.as_slice())?;
         Ok(Session {
             alloc,
-            view: View::new(alloc, core.segments),
-            pool: Pool::new(alloc),
+            memory: Remembered::new(alloc, core.segments),
             machine: core.machine,
             stated: core.stated,
             hosts,
@@ -98,11 +98,11 @@ impl<'a, L: Ledger> Session<'a, L> {
         self.hosts.len() as u64
     }
 
-    /// How many blocks of memory it holds: one for each page that was written to.
+    /// How many blocks of memory it holds: one for each page that was written to, and those of what the writes changed.
     pub fn live_blocks(&self) -> u64
-        ensures { result ≡ length (written_pages self.now.seen) }
+        ensures { result ≡ length (written_pages self.now.seen) + kept_blocks self.now.kept }
     {
-        self.pool.live()
+        self.memory.live_blocks()
     }
 
     /// Handles an event: answers it, or refuses it and stays as it was. The caller hands over at most 4,294,967,295
@@ -110,8 +110,8 @@ impl<'a, L: Ledger> Session<'a, L> {
     ///
     /// # Errors
     ///
-    /// The first reason for which the event is refused; `NotBuilt` comes before all others. `Memory` where memory ran
-    /// out: the session is poisoned then, and answers every further event by `Memory`.
+    /// The first reason for which the event is refused. `Memory` where memory ran out: the session is poisoned then,
+    /// and answers every further event by `Memory`.
     pub fn step(&mut self, event: &Event, steps: &mut Steps<L>) -> Result<Answer, StepFault>
         requires { self.old.happened + 1 < 2 ^ 32 }
         ensures accepted { IfOk result (AcceptsEvent StandsFor self.old self.new event.now) }
@@ -157,7 +157,7 @@ impl<'a, L: Ledger> Session<'a, L> {
         match event {
             Event::Machine(machine) => self.state_machine(*machine),
             Event::Cpu(number, regs) => self.state_processor(*number, *regs),
-            Event::Write { at, bytes } => self.write(*at, bytes),
+            Event::Write { at, bytes } => self.write(*at, bytes, steps),
             Event::Set { cpu, change } => self.set_register(*cpu, *change),
             Event::Invlpg { cpu, address } => self.invlpg(*cpu, *address),
             Event::Invpcid {
@@ -172,7 +172,7 @@ impl<'a, L: Ledger> Session<'a, L> {
                 pointer,
             } => self.ask(*cpu, *access, *pointer, steps),
             Event::List { cpu } => self.list(*cpu, steps),
-            _ => Err(StepFault::NotBuilt),
+            Event::Point { all } => self.point(*all, steps),
         }
     }
 
@@ -237,8 +237,7 @@ impl<'a, L: Ledger> Session<'a, L> {
     }
 
     /// Writes bytes to memory.
-    #[tactic(auto, using(crate::proofs::NotingLaws::hosts_after_write, crate::proofs::HostLaws::hosts_later))]
-    fn write(&mut self, at: u64, bytes: &Payload) -> Result<Answer, StepFault>
+    fn write(&mut self, at: u64, bytes: &Payload, steps: &mut Steps<L>) -> Result<Answer, StepFault>
         requires { self.old.happened + 1 < 2 ^ 32 }
         ensures accepted { IfOk result
             (AcceptsEvent HasAllOf self.old self.new (Event.Write at bytes.now)) }
@@ -247,18 +246,14 @@ impl<'a, L: Ledger> Session<'a, L> {
         ensures out_of_memory { result ≡ Err StepFault.Memory
             → RunsOutOfMemory HasAllOf self.old self.new (Event.Write at bytes.now) }
         ensures time { self.new.happened ≤ self.old.happened + 1 }
+        ensures cost { OnOk result (steps.new ≤ steps.old + slots_written at (length bytes.now)) }
+        ensures out_of_memory_cost { result ≡ Err StepFault.Memory
+            → steps.new ≤ steps.old + slots_written at (length bytes.now) }
+        ensures refused_cost { steps.new ≤ steps.old + 512 }
     {
-        match self.view.write(&mut self.pool, at, bytes.as_slice()) {
-            Ok(()) => {
-                self.happened += 1;
-                Ok(Answer::Nothing)
-            }
-            Err(WriteFault::Memory) => {
-                self.poisoned = true;
-                Err(StepFault::Memory)
-            }
-            Err(fault) => Err(StepFault::from(fault)),
-        }
+        let now = self.happened + 1;
+        let written = self.memory.write(now, at, bytes.as_slice(), steps);
+        go_on(written, &mut self.happened, &mut self.poisoned)
     }
 
     /// Changes a register of a processor.
@@ -329,7 +324,14 @@ impl<'a, L: Ledger> Session<'a, L> {
         ensures refused_cost { OnErr result (steps.new ≡ steps.old) }
     {
         let regs = self.hosts.regs(cpu).ok_or(StepFault::NoProcessor(cpu))?;
-        let answer = asking::ask(&self.view, &self.machine, regs, access, pointer, steps);
+        let answer = asking::ask(
+            self.memory.view(),
+            &self.machine,
+            regs,
+            access,
+            pointer,
+            steps,
+        );
         self.happened += 1;
         Ok(Answer::Asked(answer))
     }
@@ -353,12 +355,40 @@ impl<'a, L: Ledger> Session<'a, L> {
             → steps.new ≡ steps.old) }
     {
         let regs = self.hosts.regs(cpu).ok_or(StepFault::NoProcessor(cpu))?;
-        let Ok(answer) = listing::list(self.alloc, &self.view, &self.machine, regs, steps) else {
+        let listed = listing::list(self.alloc, self.memory.view(), &self.machine, regs, steps);
+        let Ok(answer) = listed else {
             self.poisoned = true;
             return Err(StepFault::Memory);
         };
         self.happened += 1;
         Ok(answer)
+    }
+
+    /// Tells what is stale of what the processors may use: under all PCIDs that each has been in, or its current one.
+    fn point(&mut self, all: bool, steps: &mut Steps<L>) -> Result<Answer, StepFault>
+        requires { self.old.happened + 1 < 2 ^ 32 }
+        ensures accepted { IfOk result (AcceptsEvent HasAllOf self.old self.new (Event.Point all)) }
+        ensures fault { IfErr result (λ fault. fault ≡ StepFault.Memory) }
+        ensures out_of_memory { result ≡ Err StepFault.Memory
+            → RunsOutOfMemory HasAllOf self.old self.new (Event.Point all) }
+        ensures time { self.new.happened ≤ self.old.happened + 1 }
+    {
+        let found = audit(
+            self.alloc,
+            self.memory.view(),
+            self.memory.changes(),
+            self.hosts.as_slice(),
+            &self.machine,
+            self.happened,
+            all,
+            steps,
+        );
+        let Ok(findings) = found else {
+            self.poisoned = true;
+            return Err(StepFault::Memory);
+        };
+        self.happened += 1;
+        Ok(Answer::Verdict(findings))
     }
 }
 

@@ -4,10 +4,12 @@
 ghost use Rattle.std.specs.Prelude.{◌≤◌, length, ⊤};
 
 mod random_lists;
+mod random_points;
 
 use super::*;
 use elf_core::{Core, Processors, Segment, Segments, parse};
 use history_model::answers::{Answer, Why};
+use history_model::caches::Finding;
 use history_model::events::Event;
 use history_model::faults::StepFault;
 use paging_model::access::{Access, Rule};
@@ -36,9 +38,6 @@ const SEPARATED: RegChange = RegChange::Cr4(0x820_0020);
 /// The machine: a physical width of 40, and 1-GByte pages.
 const MACHINE: Event = Event::Machine(Machine { m: 40, big: true });
 
-/// An event that no step answers yet.
-const POINT: Event = Event::Point { all: false };
-
 /// A processor with the small registers.
 const fn cpu(number: u32) -> Event {
     Event::Cpu(number, REGS)
@@ -53,6 +52,9 @@ const fn set(cpu: u32, change: RegChange) -> Event {
 const fn list(cpu: u32) -> Event {
     Event::List { cpu }
 }
+
+/// A point for what the processors may use under their current PCIDs.
+const POINT: Event = Event::Point { all: false };
 
 /// A write to memory.
 fn write(alloc: Global, at: u64, bytes: &[u8]) -> Result<Event, AllocError>
@@ -78,6 +80,7 @@ enum Said {
     Nothing,
     Asked(Result<u64, Why>),
     Listed(Vec<Area>),
+    Verdict(Vec<Finding>),
     Other,
     Refused(StepFault),
 }
@@ -88,6 +91,7 @@ fn said_of(alloc: Global, step: &Result<Answer, StepFault>) -> Result<Said, Allo
         Ok(Answer::Nothing) => Said::Nothing,
         Ok(Answer::Asked(asked)) => Said::Asked(*asked),
         Ok(Answer::Listed(areas)) => Said::Listed(areas.as_slice().to_vec(alloc)?),
+        Ok(Answer::Verdict(findings)) => Said::Verdict(findings.as_slice().to_vec(alloc)?),
         Ok(_) => Said::Other,
         Err(fault) => Said::Refused(*fault),
     })
@@ -225,7 +229,6 @@ fn refused_events_change_nothing(rt: HostRuntime) -> Result<(), Fail> {
     let (summary, steps) = summary_of(
         rt.alloc(),
         &[
-            POINT,
             MACHINE,
             MACHINE,
             cpu(0),
@@ -243,7 +246,6 @@ fn refused_events_change_nothing(rt: HostRuntime) -> Result<(), Fail> {
     assert_eq!(rt;
         summary.said.as_slice(),
         [
-            Said::Refused(StepFault::NotBuilt),
             Said::Nothing,
             Said::Refused(StepFault::LateState),
             Said::Nothing,
@@ -304,9 +306,10 @@ fn writes_are_seen_by_later_asks(rt: HostRuntime) -> Result<(), Fail> {
     );
     assert_eq!(rt;
         summary.blocks.as_slice(),
-        [0, 0, 0, 1, 1, 1, 1, 2, 2, 2, 2, 2].as_slice()
+        [0, 0, 0, 2, 2, 2, 2, 4, 4, 4, 4, 4].as_slice()
     );
-    assert_eq!(rt; (summary.now, summary.processors, steps), (8, 2, 10));
+    // A write takes a step for each slot that it touches, also where it is refused: here 7 in all.
+    assert_eq!(rt; (summary.now, summary.processors, steps), (8, 2, 10 + 7));
     // Two entries of one page of the example core.
     let file = example_core(alloc)?;
     let events = [
@@ -318,7 +321,7 @@ fn writes_are_seen_by_later_asks(rt: HostRuntime) -> Result<(), Fail> {
         summary.said.as_slice(),
         [Said::Nothing, Said::Nothing].as_slice()
     );
-    assert_eq!(rt; summary.blocks.as_slice(), [1, 1].as_slice());
+    assert_eq!(rt; summary.blocks.as_slice(), [2, 2].as_slice());
     Ok(())
 }
 
@@ -372,8 +375,51 @@ fn lists_go_by_what_was_written(rt: HostRuntime) -> Result<(), Fail> {
         ]
         .as_slice()
     );
-    // Each list reads two tables.
-    assert_eq!(rt; (summary.now, steps), (6, 3 * 2 * 512));
+    // Each list reads two tables, and each write one slot.
+    assert_eq!(rt; (summary.now, steps), (6, 3 * 2 * 512 + 3));
+    Ok(())
+}
+
+/// The page of 1 GByte is made read-only, and one of two processors executes INVLPG, under WP.
+#[test]
+fn points_tell_what_is_stale(rt: HostRuntime) -> Result<(), Fail> {
+    let alloc = rt.alloc();
+    let of = |cpu: u32| Finding {
+        cpu,
+        pcid: 0,
+        page: 0,
+        frame: 0x4000_0000,
+        excess: Rights::of_number(0b1001_0000),
+    };
+    let invlpg = |cpu: u32| Event::Invlpg { cpu, address: 0 };
+    let events = [
+        cpu(0),
+        cpu(1),
+        POINT,
+        write(alloc, 0x2000, &[0x81])?,
+        POINT,
+        invlpg(0),
+        Event::Point { all: true },
+        invlpg(1),
+        POINT,
+    ];
+    let (summary, _) = summary_of(alloc, &events)?;
+    assert_eq!(rt;
+        summary.said.as_slice(),
+        [
+            Said::Nothing,
+            Said::Nothing,
+            Said::Verdict(Vec::new(alloc)),
+            Said::Nothing,
+            Said::Verdict(vec![in alloc; of(0), of(1)]?),
+            Said::Nothing,
+            Said::Verdict(vec![in alloc; of(1)]?),
+            Said::Nothing,
+            Said::Verdict(Vec::new(alloc)),
+        ]
+        .as_slice()
+    );
+    assert_eq!(rt; summary.now, 7);
     Ok(())
 }
 

@@ -13,7 +13,7 @@ use Rattle.history_model.specs.History.{History, begun, next, after_event, memor
 use Rattle.history_model.specs.declared.events.Event.{Event}
 use Rattle.history_model.specs.declared.events.Event.TheVariants as event
 use Rattle.history_model.specs.declared.faults.StepFault.{StepFault}
-use Rattle.history_model.specs.declared.faults.StepFault.TheVariants.{NotBuilt, LateState, DoubleProcessor, TooManyProcessors, NoProcessor, BadType, BadPcid, NotCanonical, Illegal, Unknown, Crosses, OverlayFull}
+use Rattle.history_model.specs.declared.faults.StepFault.TheVariants.{LateState, DoubleProcessor, TooManyProcessors, NoProcessor, BadType, BadPcid, NotCanonical, Illegal, Unknown, Crosses, OverlayFull}
 
 -- the greatest number of processors
 abbrev pub processor_limit : ℕ
@@ -22,18 +22,6 @@ processor_limit = 64
 -- the greatest number of physical pages that are written to
 abbrev pub page_limit : ℕ
 page_limit = 262144
-
--- this version handles the event
-abbrev pub is_built : Event → Bool
-is_built (event.Machine _) = true
-is_built (event.Cpu _ _) = true
-is_built (event.Write _ _) = true
-is_built (event.Set _ _) = true
-is_built (event.Invlpg _ _) = true
-is_built (event.Invpcid _ _ _ _) = true
-is_built (event.Ask _ _ _) = true
-is_built (event.List _) = true
-is_built _ = false
 
 -- a rule for registers is broken
 abbrev pub if_illegal : Result (Unit {0}) RegRule → Option StepFault
@@ -98,23 +86,19 @@ write_refusal known touched at n = option_or (first_refusal (first_unknown known
         if not (page_of last == page_of at) then Some (Crosses (page_of at + 4096)) else
         (if not (is_among (page_of at) touched) && nat_le page_limit (length touched) then Some OverlayFull else None)
 
--- the first reason, of an event that this version handles
-abbrev pub rule_refusal : History → Event → Option StepFault
-rule_refusal history (event.Machine machine) = machine_refusal history
-rule_refusal history (event.Cpu cpu given) = cpu_refusal history cpu given
-rule_refusal history (event.Write at bytes) = write_refusal (memory history) (pages history) at (length bytes)
-rule_refusal history (event.Set cpu change) =
-    of_known cpu (λ known. if_illegal (change_of (machine history) change known)) (regs history cpu)
-rule_refusal history (event.Invlpg cpu address) = if_unknown cpu (regs history cpu)
-rule_refusal history (event.Invpcid cpu kind pcid address) =
-    of_known cpu (λ known. invpcid_refusal kind pcid address known) (regs history cpu)
-rule_refusal history (event.Ask cpu access pointer) = if_unknown cpu (regs history cpu)
-rule_refusal history (event.List cpu) = if_unknown cpu (regs history cpu)
-rule_refusal history (event.Point all) = None
-
--- why an event is refused in a moment; that memory ran out is no such reason
+-- why an event is refused in a moment: the first reason; that memory ran out is none
 abbrev pub refusal : History → Event → Option StepFault
-refusal history happened = if is_built happened then rule_refusal history happened else Some NotBuilt
+refusal history (event.Machine machine) = machine_refusal history
+refusal history (event.Cpu cpu given) = cpu_refusal history cpu given
+refusal history (event.Write at bytes) = write_refusal (memory history) (pages history) at (length bytes)
+refusal history (event.Set cpu change) =
+    of_known cpu (λ known. if_illegal (change_of (machine history) change known)) (regs history cpu)
+refusal history (event.Invlpg cpu address) = if_unknown cpu (regs history cpu)
+refusal history (event.Invpcid cpu kind pcid address) =
+    of_known cpu (λ known. invpcid_refusal kind pcid address known) (regs history cpu)
+refusal history (event.Ask cpu access pointer) = if_unknown cpu (regs history cpu)
+refusal history (event.List cpu) = if_unknown cpu (regs history cpu)
+refusal history (event.Point all) = None
 
 -- the moments that accepted state lines and events lead to, one after another
 pub data LeadsTo (start : History) : History → Type 0 where

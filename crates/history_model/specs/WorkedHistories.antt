@@ -205,7 +205,7 @@ pub record OfRefusalLimits : Type 0 where
       → write_refusal known touched at n ≡ None
 
 pub record OfRefusals : Type 0 where
-  pub not_built : refusal (begun small_start) (event.Point true) ≡ Some fault.NotBuilt
+  pub point : refusal (begun small_start) (event.Point true) ≡ None
   pub second_machine : refusal (begun small_start) (event.Machine small_machine) ≡ Some fault.LateState
   pub machine_after_a_processor : refusal (begun (record small_start { stated = false })) (event.Machine small_machine)
       ≡ Some fault.LateState

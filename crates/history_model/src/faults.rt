@@ -6,9 +6,6 @@ use thiserror::Error;
 /// Why an event is refused: the first reason in this order. It is printed as the program's lines have it.
 #[derive(Clone, Copy, Debug, PartialEq, Eq, Error)]
 pub enum StepFault {
-    /// This version doesn't handle the event.
-    #[error("not built")]
-    NotBuilt,
     /// The state line comes too late: after an event, or, where it states the machine, after a processor or a machine.
     #[error("late state")]
     LateState,

@@ -1,23 +1,13 @@
 -- Lines that are handled: their answers, and the moments to which they lead, are single.
-use Rattle.std.proofs.Common.{◌≡◌, ℕ, List, [], ◌∷◌, ◌++◌, refl, ap, sym, ◌∙◌, subst, inl, inr}
+use Rattle.std.proofs.Common.{◌≡◌, ℕ, List, [], ◌∷◌, ◌++◌, refl, ap, sym, ◌∙◌, subst}
 use Rattle.std.proofs.lemmas.List.Elements.{recursion_from_All}
 use Rattle.std.specs.List.{AllByRecursion}
 use Rattle.std.specs.Prelude.{All, Option, Some, None, Result, Ok, Err}
-use Rattle.paging_model.specs.Memory.{Memory}
-use Rattle.paging_model.specs.Registers.{root_of, settings_of}
-use Rattle.paging_model.specs.declared.registers.Machine.{Machine}
-use Rattle.paging_model.specs.declared.registers.Regs.{Regs}
-use Rattle.paging_model.specs.declared.spaces.Area.{Area}
-use Rattle.paging_laws.proofs.OneListing.{areas_are_one}
-use Rattle.paging_laws.proofs.Pigeonholes.{too_large_within_limits}
-use Rattle.history_model.specs.Answering.{Answers, AnswersList}
-use Rattle.history_model.specs.History.{History, after_event, machine, memory}
+use Rattle.history_laws.proofs.AnswerLaws.{answers_are_one}
+use Rattle.history_model.specs.History.{History, after_event}
 use Rattle.edit_log.specs.LogLine.{event_of}
-use Rattle.history_model.specs.Refusals.{refusal}
 use Rattle.history_model.specs.declared.answers.Answer.{Answer}
-use Rattle.history_model.specs.declared.answers.Answer.TheVariants.{Listed}
 use Rattle.history_model.specs.declared.events.Event.{Event}
-use Rattle.history_model.specs.declared.events.Event.TheVariants as event
 use Rattle.edit_log.specs.declared.line_forms.LineFault.{LineFault}
 use Rattle.rights.specs.HandledLines.{cause_of, Handles, HandlesLine, IsAnswered}
 
@@ -85,39 +75,10 @@ answers-line moment line happened answer spelled is =
     handles-line moment (after_event happened moment) line [] (answer ∷ [])
     (rw spelled (answer, [], is, handles-none (after_event happened moment), refl))
 
--- a space is too large or within the limits, and has one list of areas
-list_once : (memory : Memory) (machine : Machine) (known : Regs) (answer other : Answer)
-    → AnswersList memory machine known answer → AnswersList memory machine known other → answer ≡ other
-list_once memory machine known answer other (inl is) (inl was) = is.1 ∙ sym was.1
-list_once memory machine known answer other (inl is) (inr was) =
-    absurd (too_large_within_limits memory (settings_of known machine) (root_of known machine) is.0 was.0)
-list_once memory machine known answer other (inr is) (inl was) =
-    absurd (too_large_within_limits memory (settings_of known machine) (root_of known machine) was.0 is.0)
-list_once memory machine known answer other (inr is) (inr was) =
-    let same : is.1.0 ≡ was.1.0 = areas_are_one memory machine known is.1.0 was.1.0 is.1.1 was.1.1 in
-    is.1.2 ∙ (ap (λ (areas : List Area). Listed areas) same ∙ sym was.1.2)
-
 -- there is one answer to an accepted event
-answer_once : (moment : History) (happened : Event) (answer other : Answer) → refusal moment happened ≡ None → Answers moment happened answer → Answers moment happened other
-    → answer ≡ other
-answer_once moment (event.Machine machine) answer other accepted is was = is ∙ sym was
-answer_once moment (event.Cpu cpu given) answer other accepted is was = is ∙ sym was
-answer_once moment (event.Write at bytes) answer other accepted is was = is ∙ sym was
-answer_once moment (event.Set cpu change) answer other accepted is was = is ∙ sym was
-answer_once moment (event.Invlpg cpu address) answer other accepted is was = is ∙ sym was
-answer_once moment (event.Invpcid cpu kind pcid address) answer other accepted is was = is ∙ sym was
-answer_once moment (event.Ask cpu access pointer) answer other accepted is was =
-    let same : is.0 ≡ was.0 = cc in
-    is.2 ∙ (rw same (sym was.2))
-answer_once moment (event.List cpu) answer other accepted is was =
-    let same : was.0 ≡ is.0 = cc in
-    let lists : AnswersList (memory moment) (machine moment) is.0 other =
-    subst (λ (known : Regs). AnswersList (memory moment) (machine moment) known other) same was.2 in
-    list_once (memory moment) (machine moment) is.0 answer other is.2 lists
-answer_once moment (event.Point all) answer other accepted is was = absurd (cc)
-
-pub answered_once : (moment : History) (happened : Event) (answer other : Answer) → IsAnswered moment happened answer → IsAnswered moment happened other → answer ≡ other
-answered_once moment happened answer other is was = answer_once moment happened answer other is.accepted is.answers was.answers
+pub answered_once : (moment : History) (happened : Event) (answer other : Answer) → IsAnswered moment happened answer
+    → IsAnswered moment happened other → answer ≡ other
+answered_once moment happened answer other is was = answers_are_one moment happened answer other is.answers was.answers
 
 -- where the first lines have been handled, the others are handled from the moment after them on
 pub record Follows (mid later : History) (more : List (List ℕ)) (first all : List Answer) : Type 0 where

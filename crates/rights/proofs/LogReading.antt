@@ -194,7 +194,6 @@ event_number more log old new happened lines going gives count =
 
 -- an event is refused, or memory ran out
 is_refusal : (number : ℕ) (why : StepFault) → (why ≡ step.Memory) ⊎ ((why ≢ step.Memory) × (stop_of_event number why ≡ Line number (Step why)))
-is_refusal number step.NotBuilt = inr ((λ is. cc), refl)
 is_refusal number step.LateState = inr ((λ is. cc), refl)
 is_refusal number (step.DoubleProcessor cpu) = inr ((λ is. cc), refl)
 is_refusal number step.TooManyProcessors = inr ((λ is. cc), refl)

@@ -1,5 +1,7 @@
 //! Runs over files in memory, whose outputs were worked out by hand.
 
+mod points;
+
 use super::*;
 use outside::{Failed, MemShelf, MemSink, Shelf};
 use std::alloc::{AllocError, Global};
@@ -46,8 +48,8 @@ fn lines_are_answered_or_refused(rt: HostRuntime) -> Result<(), Fail> {
         (b"ask 0 ur 0x800000000000\n", b"denied not-canonical\n", 0),
         (
             b"ask 0 sr 0x0\npoint current\nask 0 sr 0x0\n",
-            b"granted 0x5000\nline 2 refused: not built\n",
-            4,
+            b"granted 0x5000\npoint yes\ngranted 0x5000\n",
+            0,
         ),
         (b"ask 0  ur 0x0\n", b"line 1 refused: syntax\n", 4),
         (b"ask 3 ur 0x0\n", b"line 1 refused: no processor 3\n", 4),

@@ -10,7 +10,6 @@ use Rattle.rights_report.specs.declared.refusals.Cause.TheVariants.{TooLong, Syn
 
 -- why an event is refused; out of memory is no refusal, and has no text
 abbrev pub fault_text : StepFault → List ℕ
-fault_text fault.NotBuilt = codes "not built"
 fault_text fault.LateState = codes "late state"
 fault_text (fault.DoubleProcessor cpu) = codes "double processor " ++ decimal cpu
 fault_text fault.TooManyProcessors = codes "too many processors"

@@ -94,7 +94,6 @@ fn event_refusal(alloc: Global, line: u64, fault: StepFault) -> Result<Text, All
     ensures refusal { OnOk result (fault ≢ StepFault.Memory) }
 {
     match fault {
-        StepFault::NotBuilt => line_refusal(alloc, line, "not built"),
         StepFault::LateState => line_refusal(alloc, line, "late state"),
         StepFault::DoubleProcessor(cpu) => {
             refusal_with_processor(alloc, line, "double processor ", cpu)

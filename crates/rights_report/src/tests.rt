@@ -52,8 +52,7 @@ const CORE_FAULTS: [CoreFault; 12] = [
 ];
 
 /// Every other refusal of an event.
-const STEP_FAULTS: [StepFault; 11] = [
-    StepFault::NotBuilt,
+const STEP_FAULTS: [StepFault; 10] = [
     StepFault::LateState,
     StepFault::DoubleProcessor(4_294_967_295),
     StepFault::TooManyProcessors,

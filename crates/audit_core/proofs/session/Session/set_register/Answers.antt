@@ -1,14 +1,17 @@
 use Rattle.std.proofs.Common.{sym}
 use Rattle.std.proofs.lemmas.Result.{on_ok_weaker}
+use Rattle.audit_core.proofs.AuditableHosts.{auditable_next}
 use Rattle.audit_core.proofs.EventLaws.{on_both, said-of, set-accepted}
 use Rattle.audit_core.proofs.NotingLaws.{before_the_next}
 use Rattle.audit_core.proofs.session.Session.set_register.Goals as goal
 
 pub invariant_of-self : goal.invariant_of-self
 invariant_of-self g c = (
-  c.self.invariant.0,
   before_the_next c.set-noted.result c.self.inside.hosts c.set-noted.new.self c.self.inside.happened c.go_on.new.happened
-      c.self.invariant.1 c.set-noted.ensures.before c.set-noted.ensures.unchanged c.go_on.ensures.counted
+      c.self.invariant.0 c.set-noted.ensures.before c.set-noted.ensures.unchanged c.go_on.ensures.counted
+      c.go_on.ensures.not_counted,
+  auditable_next c.set-noted.result c.self.inside.hosts c.set-noted.new.self c.self.inside.happened c.go_on.new.happened _ _ _
+      c.self.invariant.0 c.self.invariant.1 c.set-noted.ensures.noted c.set-noted.ensures.unchanged c.go_on.ensures.counted
       c.go_on.ensures.not_counted,
 )
 

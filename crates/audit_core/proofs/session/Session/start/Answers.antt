@@ -2,11 +2,19 @@
 use Rattle.std.proofs.Common.{◌∙◌, [], ap}
 use Rattle.history_model.specs.History.{insert_processors}
 use Rattle.audit_core.proofs.Accepting.{stands_first}
+use Rattle.audit_core.proofs.AuditableHosts.{new_auditable}
 use Rattle.audit_core.proofs.EventLaws.{core-stands}
+use Rattle.audit_core.proofs.StartLaws.{new_hosts_before}
 use Rattle.audit_core.proofs.session.Session.start.Goals as goal
+
+pub invariant_of-result : goal.invariant_of-result
+invariant_of-result g c = (
+  new_hosts_before _ _ c.in_ok-hosts.ensures.new,
+  new_auditable _ _ c.in_ok-hosts.ensures.new,
+)
 
 pub returns : goal.returns
 returns g c = stands_first c.args.core _ c.requires (core-stands c.args.core c.new.result c.in_ok-hosts.hosts
-    c.new.ensures.value c.new.ensures.memory
+    c.new.ensures.seen c.new.ensures.memory c.new.ensures.kept
     (c.in_ok-hosts.ensures.processors ∙ ap (insert_processors []) c.as_slice.ensures)
     c.in_ok-hosts.ensures.new c.in_ok-hosts.ensures.distinct)

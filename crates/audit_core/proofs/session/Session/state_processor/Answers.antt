@@ -1,10 +1,14 @@
 use Rattle.std.proofs.Common.{sym}
+use Rattle.audit_core.proofs.AuditableHosts.{auditable_with_one}
 use Rattle.audit_core.proofs.EventLaws.{cpu-accepted}
 use Rattle.audit_core.proofs.StartLaws.{before_with_one}
 use Rattle.audit_core.proofs.session.Session.state_processor.Goals as goal
 
 pub invariant_of-self : goal.invariant_of-self
-invariant_of-self g c = (c.self.invariant.0, before_with_one _ _ _ _ _ _ c.self.invariant.1 c.in-Ok.ensures.ok)
+invariant_of-self g c = (
+  before_with_one _ _ _ _ _ _ c.self.invariant.0 c.in-Ok.ensures.ok,
+  auditable_with_one _ _ _ _ _ _ c.self.invariant.1 c.in-Ok.ensures.ok,
+)
 
 pub invariant_of-self-in_default : goal.invariant_of-self-in_default
 invariant_of-self-in_default g c = rw c.in_default.ensures.err c.self.invariant
