@@ -7,7 +7,7 @@ file of definitions with every public name in it, and that the page's laws are t
 writes the index anew.
 
 The files of definitions are those of the model's two crates, and of others those that say what a core states, what a log
-is, what a session stands for, what is written for them, how a run ends, and what an event costs.
+is, what a session stands for, what it keeps of the past, what is written for them, how a run ends, and what an event costs.
 """
 
 import re
@@ -23,7 +23,9 @@ CRATES = {
     "history_laws": ("Costs",),
     "elf_core": ("Cores", "Fields", "FileHeader", "Notes", "ProgramHeaders", "StateNotes"),
     "edit_log": ("Log", "LogLine", "Numbers"),
-    "audit_core": ("Standing",),
+    "audit_core": ("Standing", "Remembering"),
+    "version_store": ("Changes", "WrittenChanges"),
+    "cache_rules": ("Standing",),
     "rights_report": (),
     "rights": ("Arguments", "HandledLines", "Jobs", "LineByLine", "Outcome", "Run", "Statuses"),
 }

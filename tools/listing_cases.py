@@ -8,9 +8,8 @@ import dataclasses
 import struct
 
 from make_example import ENTRIES, TABLES_SIZE, core_of, machine_note
-from slow_listing import LA57, LAM_SUP, LAM_U48, LAM_U57, LASS, PKE, PKS, SMAP, SMEP, XD, Registers
+from slow_session import LA57, LAM_SUP, LAM_U48, LAM_U57, LASS, PAE, PKE, PKS, SMAP, SMEP, XD, Registers
 
-PAE = 0x20
 KEY_1, KEY_2 = 1 << 59, 2 << 59
 
 # The example's listing, and its entries without the second page.
@@ -20,7 +19,7 @@ ONE_PAGE = {0x1000: 0x2007, 0x2000: 0x3007, 0x3000: 0x4007, 0x4000: 0x5007}
 
 @dataclasses.dataclass
 class Case:
-    """Segments of memory, each by its address and its bytes, the registers, a log, and what it prints."""
+    """Segments of memory, each by its address and its bytes, the registers, a log, what it prints, and its status."""
 
     name: str
     segments: list
@@ -29,6 +28,7 @@ class Case:
     log: str = "list 0\n"
     width: int = 40
     big: int = 1
+    status: int = 0
 
     def core(self):
         return core_of(self.segments, machine_note(self.width, self.big) + self.registers.note())

@@ -10,7 +10,9 @@ where there is no program to run.
 No contract speaks of this part: that the program's arguments, files and output are those of the host, and that its exit
 status is that of the run. Expected output is worked out here, from the page tables that each test writes.
 """
+import collections
 import os
+import re
 import resource
 import signal
 import struct
@@ -20,6 +22,9 @@ import tempfile
 import unittest
 from pathlib import Path
 
+import audit_cases
+import slow_audit
+import slow_caches
 from listing_cases import CASES, LIMITS, listed
 from make_example import (
     FILE_HEADER_SIZE,
@@ -35,17 +40,20 @@ from make_example import (
     program_header,
     state_note,
 )
-from slow_listing import RandomRun, Session
+from slow_listing import RandomRun
+from slow_session import Session
 
 CRATE = Path(__file__).resolve().parent.parent / "crates" / "rights"
+PAGE = CRATE.parents[1] / "docs" / "SHOOTDOWN.md"
 BUILT = [CRATE / "out" / "rights", CRATE / "out" / "rights.by-rattle"]
 
 USAGE = b"usage: run CORE LOG | check CORE | gen SEED COUNT\n"
 MEBIBYTE = 1 << 20
 NOBODY = 65534
 
-# How many random cores and logs are run.
+# How many random cores and logs are run: of listings, and of points.
 RANDOM_RUNS = 60
+RANDOM_HISTORIES = 300
 
 # How many pages may be written to.
 PAGE_LIMIT = 262_144
@@ -124,6 +132,13 @@ def granted(digits):
     return b"ask 0 ur 0x%x\n" % pointer, b"granted 0x%x\n" % address
 
 
+def logs_of_the_page():
+    """The logs that have sections of docs/SHOOTDOWN.md, and what is written for each over the example core."""
+    sections = PAGE.read_text(encoding="utf-8").split("\n### ")[1:]
+    blocks = [re.findall(r"(?:^    .+\n)+", section, re.M) for section in sections]
+    return [[re.sub("^    ", "", block, flags=re.M).encode() for block in pair] for pair in blocks]
+
+
 def joined(pairs):
     """The log and the output of lines."""
     return b"".join(line for line, _ in pairs), b"".join(text for _, text in pairs)
@@ -181,6 +196,12 @@ class Program(unittest.TestCase):
     def write_example(self):
         for name in ("example.core", "example.log"):
             self.write(name, (CRATE / "data" / name).read_bytes())
+
+    def run_case(self, case):
+        with self.subTest(case.name):
+            self.write("core", case.core())
+            self.write("log", case.log.encode())
+            self.ends(["run", "core", "log"], case.status, case.text.encode())
 
     def run_one(self, program, words, output, limit=None):
         global runs
@@ -255,6 +276,20 @@ class Statuses(Program):
         text = b"areas 2\n0x0 0xfff 0x5000 rwxrwxrw\n0x1000 0x1fff 0x6000 r-xr-xr-\n"
         self.ends(["run", "example.core", "log"], 0, text + b"areas 1\n0x0 0x1fff 0x5000 rwxrwxrw\n")
 
+    def test_1_a_stale_translation(self):
+        self.write_example()
+        self.write("shootdown.log", (CRATE / "data" / "shootdown.log").read_bytes())
+        text = b"point no 1\ncpu 1 pcid 0 page 0x0 frame 0x5000 rwxrwxrw\npoint yes\n"
+        self.ends(["run", "example.core", "shootdown.log"], 1, text)
+
+    def test_1_the_logs_of_the_page(self):
+        self.write_example()
+        cases = logs_of_the_page()
+        self.assertEqual(len(cases), 4)
+        for log, text in cases:
+            self.write("log", log)
+            self.ends(["run", "example.core", "log"], 1, text)
+
     def test_2_words_of_no_form(self):
         self.write_example()
         core, log = "example.core", "example.log"
@@ -287,7 +322,11 @@ class Statuses(Program):
     def test_4_a_refused_line(self):
         self.write_example()
         for log, text in (
-            (b"ask 0 ur 0x0\npoint current\nask 0 ur 0x0\n", b"granted 0x5000\nline 2 refused: not built\n"),
+            (b"ask 0 ur 0x0\npoint current\npoint\n", b"granted 0x5000\npoint yes\nline 3 refused: syntax\n"),
+            (
+                b"write 0x4000 0000000000000000\npoint current\nask 7 ur 0x0\n",
+                b"point no 1\ncpu 0 pcid 0 page 0x0 frame 0x5000 rwxrwxrw\nline 3 refused: no processor 7\n",
+            ),
             (b"invlpg 0 0x0\ninvpcid 0 4 0 0x0\n", b"line 2 refused: bad type\n"),
             (b"ask 7 ur 0x0\n", b"line 1 refused: no processor 7\n"),
             (b"write 0x0 00\nwrite 0x1fff 0000\nask 0 ur 0x0\n", b"line 2 refused: crosses 0x2000\n"),
@@ -485,12 +524,6 @@ class Files(Program):
 
 
 class Lists(Program):
-    def run_case(self, case):
-        with self.subTest(case.name):
-            self.write("core", case.core())
-            self.write("log", case.log.encode())
-            self.ends(["run", "core", "log"], 0, case.text.encode())
-
     def test_cases_by_hand(self):
         for case in CASES:
             self.run_case(case)
@@ -499,7 +532,7 @@ class Lists(Program):
         for case in CASES:
             if "too large" not in case.text:
                 with self.subTest(case.name):
-                    session = Session(case.segments, case.registers, case.width, case.big)
+                    session = Session(case.segments, {0: case.registers}, (case.width, case.big))
                     self.assertEqual(session.run(case.log), case.text)
 
     def test_as_many_tables_and_pages_as_there_may_be(self):
@@ -532,6 +565,33 @@ class Lists(Program):
             + listed("0x0 0x1fff 0x5000 r-xrwxrw")
         )
         self.ends(["run", "core", "log"], 0, text.encode())
+
+
+class Points(Program):
+    def test_cases_by_hand(self):
+        for case in audit_cases.CASES:
+            self.run_case(case)
+
+    def test_cases_by_hand_are_those_of_the_slow_session(self):
+        for case in audit_cases.CASES:
+            with self.subTest(case.name):
+                session = slow_caches.Audit(case.segments, {0: case.registers}, (case.width, case.big))
+                self.assertEqual(session.run(case.log), case.text)
+                self.assertEqual(session.status, case.status)
+
+    def test_random_histories(self):
+        seen = collections.Counter()
+        for seed, (core, log, text, status), cases in slow_audit.histories(RANDOM_HISTORIES):
+            self.write("core", core)
+            self.write("log", log)
+            with self.subTest(seed=seed):
+                self.ends(["run", "core", "log"], status, text)
+            seen += cases
+        for scope in ("current", "all"):
+            self.assertGreater(seen[f"points {scope}: no"], RANDOM_HISTORIES)
+            self.assertGreater(seen[f"points {scope}: yes"], RANDOM_HISTORIES)
+        for case in slow_caches.CASES_OF_FINDINGS:
+            self.assertGreater(seen[case], RANDOM_HISTORIES // 10, case)
 
 
 class Output(Program):
