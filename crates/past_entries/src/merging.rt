@@ -9,7 +9,7 @@ ghost use Rattle.past_entries.specs.ValueSpans.{AreInOrder, SpansMake, ValueMake
 ghost use Rattle.time_sets.specs.Sets.{has_time};
 ghost use Rattle.version_store.specs.Spanning.{AreSpans};
 
-use crate::entries::{PastEntry, add_times};
+use crate::entries::{PastEntry, add_part};
 use crate::fills::{Fill, fill_of};
 use paging_model::entries::Bits;
 use paging_model::registers::Settings;
@@ -43,32 +43,10 @@ pub fn entries_of(
     let mut entries = Vec::new(alloc);
     for (first, last, value) in spans {
         if let Some(made) = fill_of(level, settings, pages_are_global, above, *value) {
-            add_during(alloc, &mut entries, made, *first, *last, at)?;
+            add_part(alloc, &mut entries, made, at, *first, *last)?;
         }
     }
     Ok(entries)
-}
-
-/// Adds an entry at the times of a set from `first` to `last`.
-fn add_during(
-    alloc: Global,
-    entries: &mut Vec<PastEntry>,
-    fill: Fill,
-    first: u32,
-    last: u32,
-    at: &Times,
-) -> Result<(), AllocError>
-    requires { first ≤ last }
-    ensures made { OnOk result ((held : Held) (t : ℕ) → WasMade entries.new.items held t
-        ↔ (WasMade entries.old.items held t
-        ⊎ ((held_of_fill fill ≡ held) × (first ≤ t) × (t ≤ last) × (has_time at.now t ≡ true)))) }
-    ensures fit { OnOk result ((level : ℕ) → FitsLevel level fill
-        → AllFitLevel level entries.old.items → AllFitLevel level entries.new.items) }
-{
-    let mut during = Times::new(alloc);
-    during.add(first, last)?;
-    let times = at.meet(&during)?;
-    add_times(entries, fill, times)
 }
 
 /// Spans that cover some times make what the values of these times make.

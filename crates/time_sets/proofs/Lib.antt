@@ -3,3 +3,4 @@ pub mod IntersectionSteps
 pub mod UnionSteps
 pub mod Searches
 pub mod LastIntervals
+pub mod PartSteps

@@ -17,7 +17,7 @@ const INLINE: usize = 4;
 pub(crate) type Intervals = SmallVec<Interval, INLINE>;
 
 /// How many intervals of a list end before a number.
-fn count_before(intervals: &[Interval], t: u32) -> usize
+pub(crate) fn count_before(intervals: &[Interval], t: u32) -> usize
     requires { AreApartFrom 0 intervals.now }
     ensures within { result ≤ length intervals.now }
     ensures point { IsPartitionPoint (λ one. one.1 < t) (λ one. t ≤ one.1) intervals.now result }

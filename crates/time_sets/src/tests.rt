@@ -70,6 +70,34 @@ fn the_least_and_the_greatest_number_are_as_any_other(rt: HostRuntime) -> Result
 }
 
 #[test]
+fn a_part_has_the_numbers_of_its_range_alone(rt: HostRuntime) -> Result<(), Fail> {
+    let alloc = rt.alloc();
+    let other = times_of(&rt, alloc, &[(1, 3), (5, 7), (9, 9), (20, 29)])?;
+    let rows: [(u32, u32, &[Interval]); 6] = [
+        (4, 8, &[(5, 7)]),
+        (3, 5, &[(3, 3), (5, 5)]),
+        (6, 6, &[(6, 6)]),
+        (0, 40, &[(1, 3), (5, 7), (9, 9), (20, 29)]),
+        (10, 19, &[]),
+        (30, 31, &[]),
+    ];
+    for (first, last, expected) in rows {
+        assert!(rt; first <= last);
+        let mut times = Times::new(alloc);
+        times.add_part(&other, first, last)?;
+        check_intervals(&rt, times.intervals(), expected);
+    }
+    let mut times = times_of(&rt, alloc, &[(2, 5), (30, 30)])?;
+    times.add_part(&other, 6, 25)?;
+    check_intervals(
+        &rt,
+        times.intervals(),
+        &[(2, 7), (9, 9), (20, 25), (30, 30)],
+    );
+    Ok(())
+}
+
+#[test]
 fn a_new_set_is_empty(rt: HostRuntime) -> Result<(), Fail> {
     let mut times = Times::new(rt.alloc());
     assert!(rt; times.is_empty() && !times.has(0) && times.intervals().is_empty());
@@ -117,7 +145,7 @@ fn next_random(random: u64) -> u64 {
 }
 
 /// The first pair after a random operation. Mostly it has one interval more, else what both pairs have in common, or
-/// what either has, or nothing.
+/// what either has, or a part of the other's, or nothing.
 fn random_step(
     alloc: Global,
     random: u64,
@@ -137,11 +165,16 @@ fn random_step(
             times: one.times.join(&other.times)?,
             bits: one.bits | other.bits,
         }),
-        _ => {
+        more => {
             let first = (random >> 32) as u32 % 64;
             let last = (first + (random >> 48) as u32 % 6).min(63);
-            one.times.add(first, last)?;
-            one.bits |= bits_of(first, last);
+            if more == 6 {
+                one.times.add_part(&other.times, first, last)?;
+                one.bits |= other.bits & bits_of(first, last);
+            } else {
+                one.times.add(first, last)?;
+                one.bits |= bits_of(first, last);
+            }
             Ok(one)
         }
     }

@@ -5,7 +5,9 @@ ghost use Rattle.time_sets.specs.Ends.{BeginsAtLast};
 ghost use Rattle.time_sets.specs.Sets.{AreApartFrom, has_time, is_within};
 
 use crate::intersection::intersection_of;
-use crate::intervals::{Interval, Intervals, is_after_all, is_at_last, is_in, lengthen_last};
+use crate::intervals::{
+    Interval, Intervals, count_before, is_after_all, is_at_last, is_in, lengthen_last,
+};
 use crate::union::union_of;
 use std::alloc::{AllocError, Global};
 use std::marker::Model;
@@ -64,6 +66,29 @@ impl Times {
         }
         let alloc = *self.intervals.allocator();
         self.intervals = union_of(alloc, self.intervals.as_slice(), &[(first, last)])?;
+        Ok(())
+    }
+
+    /// Adds the numbers of another set that lie from `first` to `last`.
+    ///
+    /// They are found in logarithmic time, and each of their intervals is added as by `add`.
+    ///
+    /// # Errors
+    ///
+    /// Out of memory, only some of them are added.
+    pub fn add_part(&mut self, other: &Times, first: u32, last: u32) -> Result<(), AllocError>
+        requires { first ≤ last }
+        ensures { OnOk result ((t : ℕ) → has_time self.new t
+            ≡ (has_time self.old t || (is_within (first, last) t && has_time other.now t))) }
+    {
+        let intervals = other.intervals();
+        for number in count_before(intervals, first)..intervals.len() {
+            let (other_first, other_last) = intervals[number];
+            if other_first > last {
+                return Ok(());
+            }
+            self.add(other_first.max(first), other_last.min(last))?;
+        }
         Ok(())
     }
 

@@ -1,5 +1,6 @@
 pub mod BlockCounts
 pub mod ChangeLaws
+pub mod Earlier
 pub mod Frames
 pub mod Growing
 pub mod HistoryLaws

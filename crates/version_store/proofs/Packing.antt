@@ -113,14 +113,19 @@ changes_in-alike old new (suc n) same =
     ap (λ (changes : List Change). changes ++ change_at new n ∷ []) (changes_in-alike old new n (λ i below. same i (omega arith)))
     ∙ ap (λ (one : Change). changes_in old n ++ one ∷ []) (same n (omega arith))
 
+-- the changes before one that is put are as they were
+pub kept-changes : (before old new : List (List ℕ)) (n : ℕ) → IsFilledTo before n → ((k : ℕ) → k < length before → slice_index_or old k [] ≡ slice_index_or before k [])
+    → ((k : ℕ) → k ≢ n → change_at new k ≡ change_at old k) → (i : ℕ) → i < n → change_at new i ≡ change_at before i
+kept-changes before old new n filled same others i below =
+    others i (omega arith) ∙ ap (λ (b : List ℕ). change_from (drop (16 * (i % 256)) b)) (same (i / 256) (let room = filled.room in omega arith))
+
 -- a change more, where the blocks that there were are as they were
 pub changes_in-push : (before old new : List (List ℕ)) (n : ℕ) (one : Change) → IsFilledTo before n
     → ((k : ℕ) → k < length before → slice_index_or old k [] ≡ slice_index_or before k [])
     → change_at new n ≡ one → ((k : ℕ) → k ≢ n → change_at new k ≡ change_at old k) → changes_in new (n + 1) ≡ changes_in before n ++ one ∷ []
 changes_in-push before old new n one filled same value others =
     ap (changes_in new) (add-one n) ∙ ap (λ (last : Change). changes_in new n ++ last ∷ []) value
-    ∙ ap (λ (changes : List Change). changes ++ one ∷ []) (changes_in-alike before new n (λ k below. others k (omega arith)
-    ∙ ap (λ (b : List ℕ). change_from (drop (16 * (k % 256)) b)) (same (k / 256) (let room = filled.room in omega arith))))
+    ∙ ap (λ (changes : List Change). changes ++ one ∷ []) (changes_in-alike before new n (kept-changes before old new n filled same others))
 
 -- the number of blocks
 pub blocks_for-changes_in : (blocks : List (List ℕ)) (n : ℕ) → IsFilledTo blocks n → blocks_for (changes_in blocks n) ≡ length blocks

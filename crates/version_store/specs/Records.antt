@@ -1,5 +1,5 @@
 -- How the changes of a frame are kept: in records of 16 bytes, 256 of them to a block. Our own format.
-use Rattle.std.specs.Prelude.{◌≡◌, ℕ, zero, suc, ◌+◌, ◌*◌, ◌/◌, ◌%◌, ◌<◌, ◌≤◌, length, List, [], ◌∷◌, ◌++◌, drop, slice_index_or}
+use Rattle.std.specs.Prelude.{◌≡◌, Bool, true, ℕ, zero, suc, ◌+◌, ◌*◌, ◌/◌, ◌%◌, ◌<◌, ◌≤◌, length, List, [], ◌∷◌, ◌++◌, drop, slice_index_or}
 use Rattle.byteorder.specs.Endian.{little_number}
 use Rattle.version_store.specs.Changes.{IsSlotOffset, last_time}
 use Rattle.version_store.specs.declared.change.Change.{Change}
@@ -26,9 +26,14 @@ pub record IsFilledTo (blocks : List (List ℕ)) (n : ℕ) : Type 0 where
   pub room : n ≤ 256 * length blocks
   pub full : 256 * length blocks < n + 256
 
--- the changes of a frame: they fill their blocks, each is of a slot, whose place in the frame is a multiple of 8, and the
--- last has this time
-pub record AreOfFrame (blocks : List (List ℕ)) (n last : ℕ) : Type 0 where
+-- none of the first so many changes in blocks stands after one of a later time
+abbrev pub AreInOrderOfTime : List (List ℕ) → ℕ → Type 0
+AreInOrderOfTime blocks n = (i : ℕ) → i < n → last_time (changes_in blocks (i + 1)) ≤ (change_at blocks i).time
+
+-- the changes of a frame: they fill their blocks, each is of a slot, whose place in the frame is a multiple of 8, the last has
+-- this time, and they are in order where that is said
+pub record AreOfFrame (blocks : List (List ℕ)) (n last : ℕ) (are_in_order : Bool) : Type 0 where
   pub filled : IsFilledTo blocks n
   pub slots : (i : ℕ) → i < n → IsSlotOffset (change_at blocks i).offset
   pub last_is : last ≡ last_time (changes_in blocks n)
+  pub order : are_in_order ≡ true → AreInOrderOfTime blocks n

@@ -1,6 +1,6 @@
 //! The changes of one frame, in blocks.
 
-ghost use Rattle.std.specs.Prelude.{◌≡◌, ℕ, ◌+◌, ◌*◌, ◌/◌, ◌<◌, ◌≤◌, ◌≢◌, ◌++◌, ◌∷◌, [], List, drop, false, length, Some, OnOk, OnErr, IfOk, slice_index_or, slice_index, vec_len, if◌then◌else◌};
+ghost use Rattle.std.specs.Prelude.{◌≡◌, ℕ, ◌+◌, ◌*◌, ◌/◌, ◌<◌, ◌≤◌, ◌≢◌, ◌++◌, ◌∷◌, [], List, drop, take, false, length, Some, OnOk, OnErr, IfOk, slice_index_or, slice_index, vec_len, if◌then◌else◌};
 ghost use Rattle.version_store.specs.Changes.{IsSlotOffset, blocks_for, is_changed, is_changed_after, last_time as last_time_of, old_in};
 ghost use Rattle.version_store.specs.Records.{IsFilledTo, change_at, change_from};
 
@@ -25,6 +25,8 @@ pub(crate) struct FrameChanges {
     len: usize,
     /// The time of the last of them, 0 where there are none.
     last: u32,
+    /// Where set, none of them was noted after one of a later time.
+    are_in_order: bool,
 }
 
 impl Model for FrameChanges {
@@ -37,7 +39,8 @@ impl Model for FrameChanges {
 
     ghost view = { λ changes. changes_in changes.blocks.items changes.len };
 
-    ghost invariant = { λ changes. AreOfFrame changes.blocks.items changes.len changes.last };
+    ghost invariant = { λ changes.
+        AreOfFrame changes.blocks.items changes.len changes.last changes.are_in_order };
 }
 
 impl FrameChanges {
@@ -49,6 +52,7 @@ impl FrameChanges {
             blocks: Vec::new(alloc),
             len: 0,
             last: 0,
+            are_in_order: true,
         }
     }
 
@@ -78,11 +82,28 @@ impl FrameChanges {
         )
     }
 
+    /// How many of the changes can be left out by who asks for those after a time: none of them is after it.
+    ///
+    /// They are all that aren't after it, where the changes were noted in the order of their times.
+    pub(crate) fn count_until(&self, time: u32) -> usize
+        ensures within { result ≤ length self.now }
+        ensures early { last_time_of (take result self.now) ≤ time }
+    {
+        if !self.are_in_order {
+            return 0;
+        }
+        let mut count = self.len();
+        while count > 0 && self.get(count - 1).time > time {
+            count -= 1;
+        }
+        count
+    }
+
     /// The old value of the first change of the slot at an offset after a time.
     pub(crate) fn first_after(&self, offset: u16, time: u32) -> Option<u64>
         ensures { result ≡ old_in self.now offset time }
     {
-        for number in 0..self.len() {
+        for number in self.count_until(time)..self.len() {
             let change = self.get(number);
             if change.offset == offset && change.time > time {
                 return Some(change.old);
@@ -113,7 +134,7 @@ impl FrameChanges {
     {
         let len = self.len();
         let mut slots = [false; SLOTS_PER_FRAME];
-        for number in 0..len {
+        for number in self.count_until(time)..len {
             let change = self.get(number);
             if change.time > time {
                 slots[usize::from(change.offset) / SLOT_LEN] = true;
@@ -142,6 +163,7 @@ impl FrameChanges {
         let is_new = make_room(&mut self.blocks, self.len, pool)?;
         put_change(&mut self.blocks, self.len, change);
         self.len = len;
+        self.are_in_order = self.are_in_order && self.last <= change.time;
         self.last = self.last.max(change.time);
         Ok(is_new)
     }

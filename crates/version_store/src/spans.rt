@@ -52,7 +52,7 @@ pub(crate) fn spans_in(
 {
     let mut items = Vec::new(alloc);
     let mut first = from;
-    for number in 0..changes.len() {
+    for number in changes.count_until(from)..changes.len() {
         let change = changes.get(number);
         if change.offset == offset && change.time > first {
             if change.time > now {

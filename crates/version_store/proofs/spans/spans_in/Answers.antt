@@ -1,8 +1,16 @@
-use Rattle.std.proofs.Common.{inl, inr, arith, subst}
+use Rattle.std.proofs.Common.{refl, inl, inr, arith, subst}
 use Rattle.std.proofs.lemmas.List.{drop_all}
+use Rattle.version_store.proofs.Earlier.{passed_until}
 use Rattle.version_store.proofs.Growing.{IsPassed, spans_grow, spans_grow-before, passed_over, passed_at, goes_old, goes_present}
 use Rattle.version_store.proofs.spans.spans_in.Goals as goal
 use Rattle.version_store.proofs.spans.spans_in.Goals.{then-change-offset+then-change-first+else-change-now+in_ok-grow-2, else-change-offset, else-change-offset-via-then-change-offset+else-change-first, else-change-offset-via-else-change-offset}
+
+pub loop-number-init : goal.loop-number-init
+loop-number-init c = record {
+  order = c.requires;
+  passed = passed_until _ _ c.args.offset c.args.from c.count_until-number.ensures.early;
+  spans = rw c.new-items.ensures.items refl;
+}
 
 pub returns-then-change-now : goal.returns-then-change-now
 returns-then-change-now c =
