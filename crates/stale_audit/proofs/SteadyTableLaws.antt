@@ -10,7 +10,7 @@ use Rattle.paging_model.specs.Entries.{entry_of, joined_bits}
 use Rattle.paging_model.specs.LinearAddress.{index, span}
 use Rattle.paging_model.specs.Memory.{entry_at}
 use Rattle.paging_model.specs.Registers.{pge}
-use Rattle.paging_model.specs.Translations.{Protection, Target, granted_target, raw_target_of, rights_of}
+use Rattle.paging_model.specs.Translations.{Protection, Target, granted_target, raw_target, raw_target_of, rights_of}
 use Rattle.paging_model.specs.Walking.{at_entry, at_value, entry_address, own_frame, walk_from}
 use Rattle.paging_model.specs.declared.entries.Bits.{Bits}
 use Rattle.paging_model.specs.declared.entries.Entry.{Entry}
@@ -22,6 +22,7 @@ use Rattle.phys_view.specs.Seen.{memory_of}
 use Rattle.history_model.specs.CachedTranslations.{Held, held_of}
 use Rattle.history_model.specs.StaleTranslations.{Exceeds, held_target}
 use Rattle.history_laws.proofs.WalkLaws.{not_over_itself, own_frame-page, some-same}
+use Rattle.audit_laws.specs.declared.stale_pages.StalePage.{StalePage}
 use Rattle.audit_laws.specs.Leads.{IsKept, IsTimeOf, Leads, LeadsAtOneTime}
 use Rattle.audit_laws.proofs.LeadLaws.{leads-once}
 use Rattle.present_pages.specs.PresentRanges.{maps}
@@ -33,9 +34,9 @@ use Rattle.version_store.specs.Changes.{changes_of, is_changed_after, last_kept_
 use Rattle.version_store.specs.declared.change.Change.{Change}
 use Rattle.version_store.proofs.LastTimes.{last_time-kept}
 use Rattle.stale_audit.specs.Facts.{Facts, AreTimely, IsOfHome, made_in_pcid, made_of_value, made_with, makes_of, present_at, settings_with, takes_of}
-use Rattle.stale_audit.specs.Findings.{NothingFound}
+use Rattle.stale_audit.specs.Findings.{IsFoundIn, NothingFound}
 use Rattle.stale_audit.specs.SlotEntries.{IsSteadySlot}
-use Rattle.stale_audit.specs.SteadyTables.{AreKnownSteady, HadOneNxe, IsSteadyBelow, IsSteadyTable}
+use Rattle.stale_audit.specs.SteadyTables.{AreKnownSteady, HadOneNxe, IsSteadyBelow, IsSteadyPlace, IsSteadyTable, meaning_now}
 use Rattle.stale_audit.proofs.EntryLaws.{clash}
 
 -- changes none of which comes after a time
@@ -83,6 +84,11 @@ old-later (one ∷ rest) offset s t h none =
     by_test false true e f n later = absurd (grind (arith, nat_tests, e, f))
     by_test false false e f n later = later n
 
+-- a slot without a change after the horizon
+since-unchanged : (facts : Facts) (address : ℕ) → old_at facts.kept address facts.host.horizon ≡ None → IsSteadySlot facts address
+since-unchanged facts address none present t late =
+    ap (λ (old : Option ℕ). unwrap_or old present) (old-later (changes_of facts.kept (address / 4096)) (address % 4096) facts.host.horizon t late none)
+
 -- an entry of a level that has been the same since the horizon, and what is held of it
 record IsSteadyEntry (facts : Facts) (level address : ℕ) (above : Bits) (held : Held) : Type 0 where
   pub number : ℕ
@@ -109,12 +115,11 @@ module _ (facts : Facts) (ready : AreTimely facts) (one_nxe : HadOneNxe facts) w
 
   -- what was made of an unchanged slot is made of its present value
   with-now : (nxe : Bool) (level address t : ℕ) (above : Bits) (held : Held) → settings_with nxe facts.settings ≡ facts.settings
-      → facts.host.horizon ≤ t → old_at facts.kept address facts.host.horizon ≡ None → (present : Option ℕ) → entry_at (memory_of facts.seen) address ≡ present
+      → facts.host.horizon ≤ t → IsSteadySlot facts address → (present : Option ℕ) → entry_at (memory_of facts.seen) address ≡ present
       → made_of_value facts nxe level address above t present ≡ Some held → IsSteadyEntry facts level address above held
-  with-now nxe level address t above held same late none None is made = absurd (cc)
-  with-now nxe level address t above held same late none (Some number) is made =
-      let value : value_at facts.kept address number t ≡ number =
-      ap (λ (old : Option ℕ). unwrap_or old number) (old-later (changes_of facts.kept (address / 4096)) (address % 4096) facts.host.horizon t late none) in
+  with-now nxe level address t above held same late steady None is made = absurd (cc)
+  with-now nxe level address t above held same late steady (Some number) is made =
+      let value : value_at facts.kept address number t ≡ number = steady number t late in
       record {
         number = number;
         is_number = is;
@@ -122,15 +127,15 @@ module _ (facts : Facts) (ready : AreTimely facts) (one_nxe : HadOneNxe facts) w
             ∙ ap (λ v. held_of (pge facts.host.regs) above (entry_of level facts.settings v)) value) ∙ made;
       }
 
-  made-now : (level address t : ℕ) (above : Bits) (held : Held) → old_at facts.kept address facts.host.horizon ≡ None
+  made-now : (level address t : ℕ) (above : Bits) (held : Held) → IsSteadySlot facts address
       → made_in_pcid facts level address above t ≡ Some held → IsSteadyEntry facts level address above held
-  made-now level address t above held none made = by_test (has_time facts.nxe_clear t) (has_time facts.nxe_set t) refl refl made
+  made-now level address t above held steady made = by_test (has_time facts.nxe_clear t) (has_time facts.nxe_set t) refl refl made
     where
       by_test : (clear set : Bool) → has_time facts.nxe_clear t ≡ clear → has_time facts.nxe_set t ≡ set
           → (if clear then made_with facts false level address above t else (if set then made_with facts true level address above t else None)) ≡ Some held
           → IsSteadyEntry facts level address above held
-      by_test true set is e m = with-now false level address t above held (settings-clear t is) (ready.clear_since t is) none (entry_at (memory_of facts.seen) address) refl m
-      by_test false true e is m = with-now true level address t above held (settings-set t is) (ready.set_since t is) none (entry_at (memory_of facts.seen) address) refl m
+      by_test true set is e m = with-now false level address t above held (settings-clear t is) (ready.clear_since t is) steady (entry_at (memory_of facts.seen) address) refl m
+      by_test false true e is m = with-now true level address t above held (settings-set t is) (ready.set_since t is) steady (entry_at (memory_of facts.seen) address) refl m
       by_test false false e f m = absurd (cc)
 
 -- the page of a held translation, with its protection
@@ -188,30 +193,61 @@ module _ (facts : Facts) (ready : AreTimely facts) (one_nxe : HadOneNxe facts) (
       (walk_from-step (memory_of facts.seen) facts.settings x (suc lower) table bits (omega arith)
       ∙ ap (at_value (λ frame joined. Walked (suc lower - 1) frame joined) facts.settings (suc lower) x bits) now.is_number)
 
-  steady-leads : (InUse : ℕ → Type 0) (level table : ℕ) (bits : Bits) (k : ℕ) (held : Held) → IsSteadyTable facts level table
-      → Leads (makes_of facts) (takes_of facts) facts.end x InUse level table bits k held
-      → raw_target_of (Walked level table bits) ≡ page_of k x held
-  steady-leads InUse zero table bits k held steady l = absurd l
-  steady-leads InUse (suc lower) table bits k held steady (inl leaf) =
-      let slot = steady (index (suc lower) x) (index-below (suc lower) x) in
+  -- all that comes from one slot, where what comes from the table below it is known
+  led-from : (InUse : ℕ → Type 0) (lower table : ℕ) (bits : Bits) (k : ℕ) (held : Held) → IsSteadySlot facts (entry_address (suc lower) x table)
+      → ((Below : ℕ → Type 0) (frame : ℕ) (above joined : Bits) → meaning_now facts (suc lower) (entry_address (suc lower) x table) ≡ Some (entry.Table frame above)
+      → Leads (makes_of facts) (takes_of facts) facts.end x Below lower frame joined k held → raw_target_of (Walked lower frame joined) ≡ page_of k x held)
+      → Leads (makes_of facts) (takes_of facts) facts.end x InUse (suc lower) table bits k held
+      → raw_target_of (Walked (suc lower) table bits) ≡ page_of k x held
+  led-from InUse lower table bits k held same under (inl leaf) =
       let now : IsSteadyEntry facts (suc lower) (entry_address (suc lower) x table) bits held =
-      made-now facts ready one_nxe (suc lower) (entry_address (suc lower) x table) leaf.2.t bits held slot.0 leaf.2.is_made in
+      made-now facts ready one_nxe (suc lower) (entry_address (suc lower) x table) leaf.2.t bits held same leaf.2.is_made in
       ap raw_target_of (walked lower table bits held now)
       ∙ (at-leaf (pge facts.host.regs) bits (suc lower) x held (λ frame joined. Walked lower frame joined) (entry_of (suc lower) facts.settings now.number) leaf.1 now.is_held
       ∙ ap (λ n. page_of n x held) (sym leaf.0))
-  steady-leads InUse (suc lower) table bits k held steady (inr l) =
-      let slot = steady (index (suc lower) x) (index-below (suc lower) x) in
+  led-from InUse lower table bits k held same under (inr l) =
       let above : Held = l.0 in
       let Below = λ (u : ℕ). IsKept (makes_of facts) (takes_of facts) facts.end x InUse (suc lower) table bits u above in
       let once : LeadsAtOneTime (makes_of facts) (takes_of facts) facts.end x Below lower above.frame above.bits k held =
       leads-once (makes_of facts) (takes_of facts) facts.end x Below lower above.frame above.bits k held l.2 in
       let now : IsSteadyEntry facts (suc lower) (entry_address (suc lower) x table) bits above =
-      made-now facts ready one_nxe (suc lower) (entry_address (suc lower) x table) once.in_use.t bits above slot.0 once.in_use.is_made in
+      made-now facts ready one_nxe (suc lower) (entry_address (suc lower) x table) once.in_use.t bits above same once.in_use.is_made in
       let reads : IsReferenceNow bits (suc lower) x above (λ frame joined. Walked lower frame joined) (entry_of (suc lower) facts.settings now.number) =
       at-table (pge facts.host.regs) bits (suc lower) x above (λ frame joined. Walked lower frame joined) (entry_of (suc lower) facts.settings now.number) l.1 now.is_held in
       ap raw_target_of (walked lower table bits above now ∙ reads.goes_on)
-      ∙ steady-leads Below lower above.frame above.bits k held
-      (slot.1 above.frame reads.bits (ap (option_map (λ value. entry_of (suc lower) facts.settings value)) now.is_number ∙ ap (λ (one : Entry). Some one) reads.is_table)) l.2
+      ∙ under Below above.frame reads.bits above.bits
+      (ap (option_map (λ value. entry_of (suc lower) facts.settings value)) now.is_number ∙ ap (λ (one : Entry). Some one) reads.is_table) l.2
+
+  steady-leads : (InUse : ℕ → Type 0) (level table : ℕ) (bits : Bits) (k : ℕ) (held : Held) → IsSteadyTable facts level table
+      → Leads (makes_of facts) (takes_of facts) facts.end x InUse level table bits k held
+      → raw_target_of (Walked level table bits) ≡ page_of k x held
+  steady-leads InUse zero table bits k held steady l = absurd l
+  steady-leads InUse (suc lower) table bits k held steady l =
+      let slot = steady (index (suc lower) x) (index-below (suc lower) x) in
+      led-from InUse lower table bits k held (since-unchanged facts (entry_address (suc lower) x table) slot.0)
+      (λ Below frame above joined is leads. steady-leads Below lower frame joined k held (slot.1 frame above is) leads) l
+
+  -- the same of a steady slot
+  pub place-leads : (InUse : ℕ → Type 0) (level table : ℕ) (bits : Bits) (k : ℕ) (held : Held) → 1 ≤ level → IsSteadyPlace facts level (entry_address level x table)
+      → Leads (makes_of facts) (takes_of facts) facts.end x InUse level table bits k held
+      → raw_target_of (Walked level table bits) ≡ page_of k x held
+  place-leads InUse zero table bits k held least steady l = absurd (omega arith)
+  place-leads InUse (suc lower) table bits k held least steady l =
+      let lower_is : suc lower - 1 ≡ lower = omega arith in
+      led-from InUse lower table bits k held steady.same
+      (λ Below frame above joined is leads. steady-leads Below lower frame joined k held (subst (λ n. IsSteadyTable facts n frame) lower_is (steady.below frame above is)) leads) l
+
+-- what the present walk leads to isn't stale
+pub led-by-walk : (facts : Facts) (InUse : ℕ → Type 0) (first end level table : ℕ) (bits : Bits) (one : StalePage) (found : IsFoundIn facts first end InUse level table bits one)
+    → raw_target (memory_of facts.seen) facts.settings facts.home one.page ≡ page_of found.k one.page found.held → ⊥
+led-by-walk facts InUse first end level table bits one found led =
+    let x = one.page in
+    let target = λ (frame : ℕ). let at : Target ℕ = record { frame = frame; kind = rights_of facts.host.regs x (record { bits = found.held.bits; key = found.held.key }) } in Some at in
+    let present : present_at facts x ≡ Some (held_target facts.host.regs found.k x found.held) =
+    ap (granted_target facts.host.regs x) led
+    ∙ ap target (own_frame-page found.k found.held.frame x found.page.aligned) in
+    not_over_itself (held_target facts.host.regs found.k x found.held)
+    (subst (λ at. Exceeds at (held_target facts.host.regs found.k x found.held)) present found.stale.exceeds)
 
 -- a steady table to which the present walk leads leads to nothing stale
 pub steady-settled : (facts : Facts) (range : PresentRange) (table : ℕ) (bits : Bits) → AreTimely facts → HadOneNxe facts → IsOfHome facts range
@@ -219,15 +255,10 @@ pub steady-settled : (facts : Facts) (range : PresentRange) (table : ℕ) (bits 
     → NothingFound facts range.first (range.first + span range.level) (range.level - 1) table bits
 steady-settled facts range table bits ready one_nxe home there_is steady in_use one found =
     let x = one.page in
-    let led : raw_target_of (walk_from (memory_of facts.seen) facts.settings (range.level - 1) x table bits) ≡ page_of found.k x found.held =
-    steady-leads facts ready one_nxe x (IsTimeOf (has_time in_use)) (range.level - 1) table bits found.k found.held steady found.leads in
-    let target = λ (frame : ℕ). let at : Target ℕ = record { frame = frame; kind = rights_of facts.host.regs x (record { bits = found.held.bits; key = found.held.key }) } in Some at in
-    let present : present_at facts x ≡ Some (held_target facts.host.regs found.k x found.held) =
-    ap (granted_target facts.host.regs x) (sym (home x found.page.least found.page.below found.page.aligned)
-    ∙ (ap (λ (at : There). maps (memory_of facts.seen) facts.settings range.level range.first at x) there_is ∙ led))
-    ∙ ap target (own_frame-page found.k found.held.frame x found.page.aligned) in
-    not_over_itself (held_target facts.host.regs found.k x found.held)
-    (subst (λ at. Exceeds at (held_target facts.host.regs found.k x found.held)) present found.stale.exceeds)
+    led-by-walk facts (IsTimeOf (has_time in_use)) range.first (range.first + span range.level) (range.level - 1) table bits one found
+    (sym (home x found.page.least found.page.below found.page.aligned)
+    ∙ (ap (λ (at : There). maps (memory_of facts.seen) facts.settings range.level range.first at x) there_is
+    ∙ steady-leads facts ready one_nxe x (IsTimeOf (has_time in_use)) (range.level - 1) table bits found.k found.held steady found.leads))
 
 -- where nothing changed after the horizon, every table is steady
 pub all_steady : (facts : Facts) (level table : ℕ) → last_kept_time facts.kept ≤ facts.host.horizon → IsSteadyTable facts level table

@@ -4,6 +4,8 @@ use Rattle.std.specs.BTreeMap.{BTreeMap, get}
 use Rattle.std.specs.Ordering.{nat_cmp}
 use Rattle.paging_model.specs.Entries.{entry_of}
 use Rattle.paging_model.specs.Memory.{entry_at}
+use Rattle.paging_model.specs.Translations.{raw_target, raw_target_of}
+use Rattle.paging_model.specs.Walking.{walk_from}
 use Rattle.paging_model.specs.declared.entries.Bits.{Bits}
 use Rattle.paging_model.specs.declared.entries.Entry.{Entry}
 use Rattle.paging_model.specs.declared.entries.Entry.TheVariants as entry
@@ -11,6 +13,7 @@ use Rattle.phys_view.specs.Seen.{memory_of}
 use Rattle.time_sets.specs.Sets.{has_time}
 use Rattle.version_store.specs.Changes.{old_at}
 use Rattle.stale_audit.specs.Facts.{Facts}
+use Rattle.stale_audit.specs.SlotEntries.{IsSteadySlot}
 
 -- at each time of the processor in the PCID, NXE was what it is now
 abbrev pub HadOneNxe : Facts → Type 0
@@ -33,6 +36,17 @@ IsSteadyTable facts (suc lower) table = (i : ℕ) → i < 512
 abbrev pub IsSteadyBelow : Facts → ℕ → ℕ → Type 0
 IsSteadyBelow facts level slot = (frame : ℕ) (bits : Bits)
     → meaning_now facts level slot ≡ Some (entry.Table frame bits) → IsSteadyTable facts (level - 1) frame
+
+-- a slot of a table of a level has held its present value since the horizon, and the table below it is steady
+pub record IsSteadyPlace (facts : Facts) (level slot : ℕ) : Type 0 where
+  pub same : IsSteadySlot facts slot
+  pub below : IsSteadyBelow facts level slot
+
+-- NXE was what it is now, and the present walk of each page of a range comes to a table of a level, under these joined bits
+pub record IsWalkedTo (facts : Facts) (first end level table : ℕ) (bits : Bits) : Type 0 where
+  pub one_nxe : HadOneNxe facts
+  pub walks : (x : ℕ) → first ≤ x → x < end → x % 4096 ≡ 0 → raw_target (memory_of facts.seen) facts.settings facts.home x
+      ≡ raw_target_of (walk_from (memory_of facts.seen) facts.settings level x table bits)
 
 -- each table that is known as steady, by its address plus its level, is so
 pub record AreKnownSteady (facts : Facts) (known : BTreeMap ℕ Bool) : Type 0 where

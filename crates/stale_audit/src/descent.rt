@@ -1,6 +1,6 @@
 //! The descent of the tables.
 
-ghost use Rattle.std.specs.Prelude.{◌≡◌, ℕ, ◌+◌, ◌-◌, ◌<◌, ◌≤◌, true, Ok, IfOk};
+ghost use Rattle.std.specs.Prelude.{◌≡◌, ℕ, ◌+◌, ◌-◌, ◌*◌, ◌<◌, ◌≤◌, true, Ok, IfOk};
 ghost use Rattle.audit_laws.specs.Firsts.{IsFirst};
 ghost use Rattle.audit_laws.specs.Leads.{IsTimeOf};
 ghost use Rattle.paging_model.specs.Entries.{IsFrame};
@@ -9,14 +9,14 @@ ghost use Rattle.present_pages.specs.PresentRanges.{IsPresentRange};
 ghost use Rattle.stale_audit.specs.Facts.{IsOfHome, AreTimely};
 ghost use Rattle.stale_audit.specs.Findings.{IsFoundIn, NothingFound};
 ghost use Rattle.stale_audit.specs.SlotEntries.{IsTimed, is_in_use};
-ghost use Rattle.stale_audit.specs.SteadyTables.{AreKnownSteady};
+ghost use Rattle.stale_audit.specs.SteadyTables.{AreKnownSteady, IsWalkedTo};
 ghost use Rattle.time_sets.specs.Sets.{has_time};
 
 use crate::firsts::first_of_two;
 use crate::point::Point;
 use crate::ranges::slot_range;
 use crate::slots::slot_findings;
-use crate::steady_tables::{KnownTables, is_steady};
+use crate::steady_tables::{KnownTables, is_quiet, is_steady};
 use crate::timed_tables::{TimedTable, timed_table};
 use audit_laws::stale_pages::StalePage;
 use paging_model::entries::Bits;
@@ -42,19 +42,53 @@ fn audit_table<L: Ledger>(
     requires least { 2 ≤ range.level }
     requires most { range.level ≤ 5 }
     requires home { IsOfHome point.now range }
+    requires walked { table.now.present ≡ true → IsWalkedTo point.now range.first
+        (range.first + span range.level) (range.level - 1) table.now.frame table.now.bits }
     ensures known { AreKnownSteady point.now known.new }
     ensures first { IfOk result (IsFirst (IsFoundIn point.now range.first
         (range.first + span range.level) (IsTimeOf (is_in_use table.now))
         (range.level - 1) table.now.frame table.now.bits)) }
 {
     for i in 0..512u64 {
-        let slot = slot_range(point, range, i, steps);
-        let found = audit_slot(point, table, slot, known, steps)?;
+        let found = audit_place(point, table, range, i, known, steps)?;
         if found.is_some() {
             return Ok(found);
         }
     }
     Ok(None)
+}
+
+/// The first finding by slot `i` of a table; `range` is that of the table.
+#[cycle(audit)]
+fn audit_place<L: Ledger>(
+    point: &Point<'_, '_, L>,
+    table: &TimedTable,
+    range: PresentRange,
+    i: u64,
+    known: &mut KnownTables,
+    steps: &mut Steps<L>,
+) -> Result<Option<StalePage>, AllocError>
+    requires ready { AreTimely point.now }
+    requires known { AreKnownSteady point.now known.old }
+    requires timed { IsTimed point.now table.now }
+    requires range { IsPresentRange range }
+    requires least { 2 ≤ range.level }
+    requires most { range.level ≤ 5 }
+    requires home { IsOfHome point.now range }
+    requires walked { table.now.present ≡ true → IsWalkedTo point.now range.first
+        (range.first + span range.level) (range.level - 1) table.now.frame table.now.bits }
+    requires slot { i < 512 }
+    ensures known { AreKnownSteady point.now known.new }
+    ensures first { IfOk result (IsFirst (IsFoundIn point.now
+        (range.first + i * span (range.level - 1))
+        (range.first + i * span (range.level - 1) + span (range.level - 1))
+        (IsTimeOf (is_in_use table.now)) (range.level - 1) table.now.frame table.now.bits)) }
+{
+    if is_quiet(point, table, range.level - 1, i, known, steps)? {
+        return Ok(None);
+    }
+    let slot = slot_range(point, range, i, steps);
+    audit_slot(point, table, slot, known, steps)
 }
 
 /// The first finding by the entries of one slot, and under the tables that they reference; `range` is that of the slot.
@@ -121,7 +155,8 @@ fn audit_below<L: Ledger>(
     if is_settled(point, range, table, bits, known, steps)? {
         return Ok(None);
     }
-    let timed = timed_table(point, table, bits, in_use)?;
+    let present = range.there == (There::Table { frame: table, bits }) && point.had_one_nxe();
+    let timed = timed_table(point, table, bits, in_use, present)?;
     audit_table(point, &timed, range, known, steps)
 }
 

@@ -8,6 +8,7 @@
 //!
 //! Nothing is looked for under a table to which the present tables lead too, where since the
 //! horizon no slot of it or of a table below has changed: whatever was made there is there now.
+//! Of such a table that has changed, slots are passed by that haven't, if nothing below them has.
 //! Where no change after the horizon is kept at all, that is known at once; else each table is
 //! looked through once, and those of level 1 by their frames alone.
 #![tactic(auto)]

@@ -118,7 +118,7 @@ pub(crate) fn top_range<L: Ledger>(
 }
 
 /// The level of the top table.
-fn top_level(settings: &Settings) -> u8
+pub(crate) fn top_level(settings: &Settings) -> u8
     ensures value { result ≡ top_level_of settings.now }
     ensures least { 4 ≤ result }
     ensures most { result ≤ 5 }

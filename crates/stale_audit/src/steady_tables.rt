@@ -4,9 +4,11 @@ ghost use Rattle.std.specs.Prelude.{◌≡◌, ◌≢◌, ℕ, ◌+◌, ◌*◌,
 ghost use Rattle.std.specs.BTreeMap.{get};
 ghost use Rattle.std.specs.Ordering.{nat_cmp};
 ghost use Rattle.paging_model.specs.Entries.{IsFrame};
-ghost use Rattle.stale_audit.specs.SteadyTables.{AreKnownSteady, IsSteadyBelow, IsSteadyTable};
+ghost use Rattle.stale_audit.specs.SlotEntries.{IsTimed};
+ghost use Rattle.stale_audit.specs.SteadyTables.{AreKnownSteady, IsSteadyBelow, IsSteadyPlace, IsSteadyTable};
 
 use crate::point::Point;
+use crate::timed_tables::TimedTable;
 use entry_decode::decode;
 use paging_model::entries::Entry;
 use phys_view::{Ledger, Steps};
@@ -98,6 +100,35 @@ fn is_steady_below<L: Ledger>(
         Entry::Table { frame, .. } => is_steady(point, level - 1, frame, known, steps),
         _ => Ok(true),
     }
+}
+
+/// Whether slot `i` of a table of a level leads to nothing stale: the present tables lead to the table too, and neither
+/// the slot nor a table below it has changed since the horizon.
+pub(crate) fn is_quiet<L: Ledger>(
+    point: &Point<'_, '_, L>,
+    table: &TimedTable,
+    level: u8,
+    i: u64,
+    known: &mut KnownTables,
+    steps: &mut Steps<L>,
+) -> Result<bool, AllocError>
+    requires timed { IsTimed point.now table.now }
+    requires least { 1 ≤ level }
+    requires most { level ≤ 5 }
+    requires slot { i < 512 }
+    requires known { AreKnownSteady point.now known.old }
+    ensures present { result ≡ Ok true → table.now.present ≡ true }
+    ensures quiet { result ≡ Ok true
+        → IsSteadyPlace point.now level (table.now.frame + 8 * i) }
+    ensures known { AreKnownSteady point.now known.new }
+{
+    if !table.present || table.changed[i as usize] {
+        return Ok(false);
+    }
+    if level == 1 || point.store.last_time() <= point.host.horizon() {
+        return Ok(true);
+    }
+    is_steady_below(point, level, table.frame + 8 * i, known, steps)
 }
 
 /// Adds what is known of a table.

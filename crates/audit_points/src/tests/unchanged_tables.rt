@@ -110,7 +110,7 @@ fn tables_are_cut_at_the_top_where_nothing_changed(rt: HostRuntime) -> Result<()
     let bytes = memory(rt.alloc())?;
     let (findings, steps) = point_and_steps(&rt, rt.alloc(), &bytes, &[])?;
     assert!(rt; findings.as_slice().is_empty());
-    assert_eq!(rt; steps, 2 * 512);
+    assert_eq!(rt; steps, 0);
     Ok(())
 }
 
@@ -128,8 +128,9 @@ fn a_table_is_cut_beside_one_that_changed(rt: HostRuntime) -> Result<(), Fail> {
         (findings.as_slice()[0].page, findings.as_slice()[0].frame),
         (0x3f_f000, 0xb_0000)
     );
-    // Two reads of each slot on the way and of the changed table, and three to find which table changed.
-    assert_eq!(rt; steps, 2 * (4 + 512) + 3);
+    // Two reads of each slot on the way, one more of those above the last and of the one beside them, and three to find
+    // which table changed.
+    assert_eq!(rt; steps, 2 * 4 + 4 + 3);
     Ok(())
 }
 
@@ -149,7 +150,8 @@ fn a_table_is_looked_through_once(rt: HostRuntime) -> Result<(), Fail> {
     };
     let (findings, steps) = point_and_steps(&rt, rt.alloc(), &bytes, &[change])?;
     assert!(rt; findings.as_slice().is_empty());
-    // Four tables are gone down, and two levels of the other one are looked through.
-    assert_eq!(rt; steps, 2 * (4 * 512) + 2 * 512 + 2);
+    // Each slot of three tables is read, and of four slots on the way two more reads; two levels of the other table are
+    // looked through, and two more slots on the way.
+    assert_eq!(rt; steps, 3 * 512 + 2 * 4 + 2 * 512 + 2);
     Ok(())
 }

@@ -9,13 +9,16 @@ use Rattle.stale_audit.specs.SteadyTables.{AreKnownSteady}
 use Rattle.stale_audit.proofs.descent.+audit.Given as goal
 
 abbrev pub decreases-audit_below : goal.decreases-audit_below
-decreases-audit_below g l = 3 * l.range.level
+decreases-audit_below g l = 4 * l.range.level
 
 abbrev pub decreases-audit_slot : goal.decreases-audit_slot
-decreases-audit_slot g l = 3 * l.range.level + 1
+decreases-audit_slot g l = 4 * l.range.level + 1
+
+abbrev pub decreases-audit_place : goal.decreases-audit_place
+decreases-audit_place g l = 4 * (l.range.level - 1) + 2
 
 abbrev pub decreases-audit_table : goal.decreases-audit_table
-decreases-audit_table g l = 3 * (l.range.level - 1) + 2
+decreases-audit_table g l = 4 * (l.range.level - 1) + 3
 
 -- nothing is found by the slots before i
 abbrev pub invariant-audit_table-loop-i : goal.invariant-audit_table-loop-i

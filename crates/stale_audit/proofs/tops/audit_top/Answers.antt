@@ -12,14 +12,14 @@ returns-then-is_some-clause-first g c =
     from-all c.args.point.now c.args.in_use.now c.in_ok-table.table c.in_ok-table.ensures.split (top_level c.args.point.now.settings) c.args.root c.in_ok-found.found
     (top-some c.args.point.now (IsTimeOf (is_in_use c.in_ok-table.table)) (top_level c.args.point.now.settings) c.args.root (top-room c.args.point.now.settings) c.loop-i.i c.loop-i-test.true
     c.in_ok-found.found (sym c.is_some.ensures ∙ c.if-is_some.true) c.loop-i.invariant.none
-    (rw (c.top_range-range.ensures.level, c.top_range-range.ensures.first, c.in_ok-table.ensures.frame, c.in_ok-table.ensures.bits) at c.in_ok-found.ensures.first))
+    (rw (c.in_ok-table.ensures.frame) at c.in_ok-found.ensures.first))
 
 pub loop-i-preserved : goal.loop-i-preserved
 loop-i-preserved g c = record {
   none = top-none c.args.point.now (IsTimeOf (is_in_use c.in_ok-table.table)) (top_level c.args.point.now.settings) c.args.root (top-room c.args.point.now.settings) c.loop-i.i c.loop-i-test.true
       c.in_ok-found.found (sym c.is_some.ensures ∙ c.if-is_some.false) c.loop-i.invariant.none
-      (rw (c.top_range-range.ensures.level, c.top_range-range.ensures.first, c.in_ok-table.ensures.frame, c.in_ok-table.ensures.bits) at c.in_ok-found.ensures.first);
-  known = c.audit_slot.ensures.known;
+      (rw (c.in_ok-table.ensures.frame) at c.in_ok-found.ensures.first);
+  known = c.audit_top_place.ensures.known;
 }
 
 pub returns-clause-first : goal.returns-clause-first
