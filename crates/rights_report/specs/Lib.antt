@@ -1,7 +1,9 @@
 pub mod Characters
 pub mod AnswerLines
+pub mod SummaryLines
 pub mod RefusalLines
 pub mod LogRefusals
 pub mod CoreRefusals
+pub mod CoreLines
 pub mod FixedLines
 pub mod WorkedTexts

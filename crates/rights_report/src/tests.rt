@@ -1,13 +1,14 @@
-//! Each error prints itself as the program's line has it, and one buffer takes the lines of one answer after another.
+//! Each error prints itself as the program's line has it, one buffer takes the lines of one answer after another, and
+//! the lines of a summary and of a core have all their counts.
 
 use super::*;
-use elf_core::{CoreFault, NoteRule};
+use elf_core::{Core, CoreFault, NoteRule, Processors, Segment, Segments};
 use history_model::answers::{Answer, Why};
 use history_model::caches::{Finding, Findings};
 use history_model::faults::StepFault;
 use paging_model::access::Rule;
 use paging_model::access_sets::Rights;
-use paging_model::registers::RegRule;
+use paging_model::registers::{Machine, Processor, RegRule, Regs};
 use paging_model::spaces::{Area, Areas};
 use std::alloc::{AllocError, Global};
 use std::process::Abort;
@@ -127,6 +128,77 @@ fn a_buffer_holds_the_last_line_alone(rt: HostRuntime) -> Result<(), Fail> {
         writes(&rt, rt.alloc(), &mut buffer, answer, i, expected)?;
     }
     Ok(())
+}
+
+#[test]
+fn a_summary_has_a_line_for_each_count(rt: HostRuntime) -> Result<(), Fail> {
+    let mut buffer = LineBuffer::new();
+    let idle = [
+        "events 3\n",
+        "writes 0\n",
+        "sets 0\n",
+        "invalidations 3\n",
+        "granted 0\n",
+        "denied 0\n",
+        "areas 0\n",
+        "points yes 0\n",
+        "points no 0\n",
+    ];
+    let summary = Summary {
+        events: 3,
+        invalidations: 3,
+        ..Summary::default()
+    };
+    for index in 0..SUMMARY_LINES {
+        write_summary_line(&mut buffer, &summary, index);
+        assert_eq!(rt; buffer.bytes(), idle[index as usize].as_bytes());
+    }
+    let longest = Summary {
+        invalidations: u64::MAX,
+        ..summary
+    };
+    write_summary_line(&mut buffer, &longest, 3);
+    let expected = "invalidations 18446744073709551615\n";
+    assert_eq!(rt; buffer.bytes(), expected.as_bytes());
+    Ok(())
+}
+
+#[test]
+fn a_core_is_counted(rt: HostRuntime) -> Result<(), Fail> {
+    let mut buffer = LineBuffer::new();
+    let page = [0; 4096];
+    let mut core = one_processor(rt.alloc(), &page)?;
+    write_core_line(&mut buffer, &core);
+    let expected = "core ok: segments 1, processors 1, machine 40 1\n";
+    assert_eq!(rt; buffer.bytes(), expected.as_bytes());
+    core.machine = Machine::new(52, false);
+    core.processors = Processors::new(rt.alloc());
+    write_core_line(&mut buffer, &core);
+    let expected = "core ok: segments 1, processors 0, machine 52 0\n";
+    assert_eq!(rt; buffer.bytes(), expected.as_bytes());
+    Ok(())
+}
+
+/// A core with the first 4 KBytes of memory and a processor, whose machine has 40 bits and 1-GByte pages.
+fn one_processor(alloc: Global, page: &[u8; 4096]) -> Result<Core<'_>, AllocError> {
+    let bytes = page.as_slice();
+    let segments = vec![in alloc; Segment { phys: 0, bytes }]?;
+    let regs = Regs {
+        cr0: 0x8000_0001,
+        cr3: 0x1000,
+        cr4: 0x20,
+        efer: 0x500,
+        ac: false,
+        pkru: 0,
+        pkrs: 0,
+    };
+    let processors = vec![in alloc; Processor { number: 0, regs }]?;
+    Ok(Core {
+        segments: Segments::from_vec(segments),
+        stated: true,
+        machine: Machine::new(40, true),
+        processors: Processors::from_vec(processors),
+    })
 }
 
 /// Two areas: a page that grants all, and 2 MBytes for reads and writes of the supervisor.

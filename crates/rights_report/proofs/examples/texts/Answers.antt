@@ -21,4 +21,8 @@ returns c = record {
   stranger = refl;
   illegal = refl;
   crosses = refl;
+  idle = refl;
+  mixed = refl;
+  core = λ _ _. refl;
+  without_processors = λ _ _. refl;
 }
