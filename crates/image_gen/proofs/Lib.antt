@@ -1,0 +1,11 @@
+pub mod CoreAccepted
+pub mod CoreBytes
+pub mod DrawnLines
+pub mod LogBytes
+pub mod EachLine
+pub mod KnownMemory
+pub mod LineEvents
+pub mod LinesApart
+pub mod NoRefusals
+pub mod SpelledNumbers
+pub mod StartFacts
