@@ -14,7 +14,7 @@ use Rattle.rights.proofs.FileReading.{is_accepted}
 use Rattle.rights.proofs.PutPieces.{Pieces}
 
 -- an end without a fault is that of the outcome
-end-whole : (job : Job) (before now : Pieces) (status : Status) → status ≢ ReadFailed → status ≢ WriteFailed → Ends job before now status
+pub end-whole : (job : Job) (before now : Pieces) (status : Status) → status ≢ ReadFailed → status ≢ WriteFailed → Ends job before now status
     → AddsOutcome job before now status ⊎ (status ≡ OutOfMemory)
 end-whole job before now Answered read written ends = inl ends
 end-whole job before now Stale read written ends = inl ends

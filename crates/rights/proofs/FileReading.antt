@@ -117,7 +117,7 @@ pub refused_as : (defined : Result Core CoreFault) (fault : CoreFault) → (faul
 refused_as defined fault known is = elim is [ inl memory ↦ absurd (known memory) | inr refusal ↦ refusal ]
 
 -- a core that isn't parsed is refused, or memory ran out
-is_core_refusal : (fault : CoreFault) → (fault ≡ core_fault.Memory) ⊎ ((fault ≡ core_fault.Memory → ⊥) × (stop_of_core fault ≡ stop.Core fault))
+pub is_core_refusal : (fault : CoreFault) → (fault ≡ core_fault.Memory) ⊎ ((fault ≡ core_fault.Memory → ⊥) × (stop_of_core fault ≡ stop.Core fault))
 is_core_refusal core_fault.Short = inr ((λ is. cc), refl)
 is_core_refusal core_fault.NotElf = inr ((λ is. cc), refl)
 is_core_refusal core_fault.Class = inr ((λ is. cc), refl)

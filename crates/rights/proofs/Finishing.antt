@@ -26,9 +26,9 @@ line-put before now line CoreRefused among adds = record { outcome = record { li
 line-put before now line LogRefused among adds = record { outcome = record { lines = line ∷ []; status = LogRefused }; is = refl; status_is = refl; adds = adds }
 line-put before now line Answered among adds = record { outcome = record { lines = line ∷ []; status = Answered }; is = refl; status_is = refl; adds = adds }
 line-put before now line Stale among adds = record { outcome = record { lines = line ∷ []; status = Stale }; is = refl; status_is = refl; adds = adds }
-line-put before now line ReadFailed among adds = elim among [ inl e ↦ absurd (cc) | inr e ↦ elim e [ inl d ↦ absurd (cc) | inr d ↦ absurd (cc) ] ]
-line-put before now line WriteFailed among adds = elim among [ inl e ↦ absurd (cc) | inr e ↦ elim e [ inl d ↦ absurd (cc) | inr d ↦ absurd (cc) ] ]
-line-put before now line OutOfMemory among adds = elim among [ inl e ↦ absurd (cc) | inr e ↦ elim e [ inl d ↦ absurd (cc) | inr d ↦ absurd (cc) ] ]
+line-put before now line ReadFailed among adds = elim among [ inl e ↦ absurd (cc) | inr e ↦ elim e [ inl d ↦ absurd (cc) | inr d ↦ elim d [ inl f ↦ absurd (cc) | inr f ↦ absurd (cc) ] ] ]
+line-put before now line WriteFailed among adds = elim among [ inl e ↦ absurd (cc) | inr e ↦ elim e [ inl d ↦ absurd (cc) | inr d ↦ elim d [ inl f ↦ absurd (cc) | inr f ↦ absurd (cc) ] ] ]
+line-put before now line OutOfMemory among adds = elim among [ inl e ↦ absurd (cc) | inr e ↦ elim e [ inl d ↦ absurd (cc) | inr d ↦ elim d [ inl f ↦ absurd (cc) | inr f ↦ absurd (cc) ] ] ]
 
 pub line-puts : (E : Type 0) (before now : Pieces) (line : List ℕ) (status : Status) → EndsByLine status → Puts {E = E} before now (Ok tt) line
     → Ends (one_line line status) before now status

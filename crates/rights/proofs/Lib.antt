@@ -1,8 +1,10 @@
 pub mod Booleans
+pub mod CheckedCores
 pub mod Completeness
 pub mod FileReading
 pub mod Finishing
 pub mod Following
+pub mod GeneratedLogs
 pub mod HandledLines
 pub mod Jobs
 pub mod LineEnds

@@ -193,7 +193,7 @@ event_number more log old new happened lines going gives count =
     ∙ omega (arith, count, length-append lines gives.skipped, length-append gives.skipped (gives.line ∷ []))
 
 -- an event is refused, or memory ran out
-is_refusal : (number : ℕ) (why : StepFault) → (why ≡ step.Memory) ⊎ ((why ≢ step.Memory) × (stop_of_event number why ≡ Line number (Step why)))
+pub is_refusal : (number : ℕ) (why : StepFault) → (why ≡ step.Memory) ⊎ ((why ≢ step.Memory) × (stop_of_event number why ≡ Line number (Step why)))
 is_refusal number step.LateState = inr ((λ is. cc), refl)
 is_refusal number (step.DoubleProcessor cpu) = inr ((λ is. cc), refl)
 is_refusal number step.TooManyProcessors = inr ((λ is. cc), refl)

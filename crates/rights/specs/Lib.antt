@@ -1,10 +1,12 @@
 pub mod Arguments
 pub mod Ends
+pub mod Generated
 pub mod HandledLines
 pub mod Jobs
 pub mod LineByLine
 pub mod LogPieces
 pub mod Outcome
+pub mod Summaries
 pub mod Partway
 pub mod Reads
 pub mod Run

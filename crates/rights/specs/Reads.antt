@@ -1,7 +1,9 @@
 -- What a run does to a shelf, and what its faults are caused by.
 use Rattle.std.specs.Prelude.{◌≡◌, ◌⊎◌, ℕ, ◌≤◌, List}
+use denote.Ref.{Bor}
 use Rattle.outside.specs.Count.{Rose}
 use Rattle.outside.specs.Shelf.{Known}
+use Rattle.rights.specs.Arguments.{IsCheck, IsRun}
 use Rattle.rights.specs.Run.{IsAccepted, MayBe}
 use Rattle.rights.specs.declared.statuses.Status.{Status}
 use Rattle.rights.specs.declared.statuses.Status.TheVariants.{ReadFailed, WriteFailed}
@@ -23,6 +25,12 @@ FailedAt old new name = Rose (old name) (new name)
 abbrev pub FailedToRead : (List ℕ → Known) → (List ℕ → ℕ) → (List ℕ → ℕ) → List ℕ → List ℕ → Type 0
 FailedToRead known old new core log =
     FailedAt old new core ⊎ (FailedAt old new log × ((bytes : List ℕ) × MayBe (known core) bytes × IsAccepted bytes))
+
+-- reads failed of a file that the arguments name: of the core, or of the log of an accepted core
+abbrev pub FailedToReadFor : List (Bor (List ℕ)) → (List ℕ → Known) → (List ℕ → ℕ) → (List ℕ → ℕ) → Type 0
+FailedToReadFor arguments known old new =
+    ((core : List ℕ) × (log : List ℕ) × IsRun arguments core log × FailedToRead known old new core log)
+    ⊎ ((core : List ℕ) × IsCheck arguments core × FailedAt old new core)
 
 -- a run whose reading failed has this cause, and one whose writing failed that
 pub record FailsOnlyBy (Reading Writing : Type 0) (status : Status) : Type 0 where

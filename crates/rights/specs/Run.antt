@@ -5,15 +5,18 @@ use Rattle.elf_core.specs.Cores.{core_of}
 use Rattle.elf_core.specs.declared.core_file.Core.{Core}
 use Rattle.elf_core.specs.declared.faults.CoreFault.{CoreFault}
 use Rattle.history_model.specs.History.{begun}
+use Rattle.image_gen.specs.GeneratedCore.{generated_core}
+use Rattle.image_gen.specs.LineTexts.{generated_log}
 use Rattle.outside.specs.Shelf.{Known, unspecified, missing, has_bytes}
+use Rattle.rights_report.specs.CoreLines.{core_line}
 use Rattle.rights_report.specs.CoreRefusals.{core_refusal_line}
 use Rattle.rights.specs.Ends.{Ends}
 use Rattle.rights_report.specs.FixedLines.{core_too_long_line}
-use Rattle.rights.specs.Jobs.{Job, one_line, job_of_log, IsOutcomeOf}
+use Rattle.rights.specs.Jobs.{Job, one_line, summary, job_of_log, IsOutcomeOf}
 use Rattle.rights.specs.Outcome.{Outcome}
 use Rattle.rights.specs.Statuses.{code_of}
 use Rattle.rights.specs.declared.statuses.Status.{Status}
-use Rattle.rights.specs.declared.statuses.Status.TheVariants.{CoreRefused, ReadFailed, OutOfMemory}
+use Rattle.rights.specs.declared.statuses.Status.TheVariants.{Answered, Stale, CoreRefused, ReadFailed, WriteFailed, OutOfMemory}
 
 -- the greatest length of a core, in bytes
 abbrev pub core_limit : ℕ
@@ -39,6 +42,23 @@ job_by (Err line) log = one_line line CoreRefused
 abbrev pub job_of : List ℕ → List ℕ → Job
 job_of core log = job_by (core_or_refusal core) log
 
+-- the line that says what an accepted core states, or the refusal of the core
+abbrev pub check_job_by : Result Core (List ℕ) → Job
+check_job_by (Ok core) = one_line (core_line core) Answered
+check_job_by (Err line) = one_line line CoreRefused
+
+abbrev pub check_job : List ℕ → Job
+check_job core = check_job_by (core_or_refusal core)
+
+-- the summary of a log from the moment that an accepted core states, or the refusal of the core
+abbrev pub summary_job : Result Core (List ℕ) → List ℕ → Job
+summary_job (Ok core) log = summary (begun (core_start core)) log
+summary_job (Err line) log = one_line line CoreRefused
+
+-- the same of the core and the log that are generated from a seed
+abbrev pub gen_job : ℕ → ℕ → Job
+gen_job seed count = summary_job (core_or_refusal generated_core) (generated_log seed count)
+
 -- what is written for a core and a log, and how the run ends
 abbrev pub IsOutcome : List ℕ → List ℕ → Outcome → Type 0
 IsOutcome core log outcome = IsOutcomeOf (job_of core log) outcome
@@ -57,6 +77,16 @@ pub record EndsForFiles (core_known log_known : Known) (before now : Option (Lis
   pub core_is : MayBe core_known core
   pub log_is : IsAccepted core → MayBe log_known log
   pub ends : Ends (job_of core log) before now status
+
+-- what the bytes of the core say was written, as far as a check that ends so has it
+pub record EndsForCore (core_known : Known) (before now : Option (List (List ℕ))) (status : Status) : Type 0 where
+  pub core : List ℕ
+  pub core_is : MayBe core_known core
+  pub ends : Ends (check_job core) before now status
+
+-- a run over a generated log ends by its summary, unless it can't be written or memory runs out
+abbrev pub EndsBySummary : Status → Type 0
+EndsBySummary status = (status ≡ Answered) ⊎ (status ≡ Stale) ⊎ (status ≡ WriteFailed) ⊎ (status ≡ OutOfMemory)
 
 -- nothing was written, since a file couldn't be read or memory ran out
 pub record IsUnread (before now : Option (List (List ℕ))) (status : Status) : Type 0 where

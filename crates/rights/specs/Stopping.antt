@@ -23,9 +23,9 @@ use Rattle.rights.specs.Ends.{Adds, AddsPrefix, AddsTruncated, Ends}
 use Rattle.rights_report.specs.FixedLines.{core_too_long_line, usage_line}
 use Rattle.rights.specs.HandledLines.{fault_cause}
 use Rattle.rights.specs.Jobs.{Job, one_line, IsOutcomeOf, job_of_log, HasReached}
-use Rattle.rights.specs.Run.{IsAccepted, job_of, MayBe}
+use Rattle.rights.specs.Run.{IsAccepted, check_job, job_of, MayBe}
 use Rattle.rights.specs.declared.statuses.Status.{Status}
-use Rattle.rights.specs.declared.statuses.Status.TheVariants.{CoreRefused, LogRefused, ReadFailed, WriteFailed, OutOfMemory, Usage as WrongUsage}
+use Rattle.rights.specs.declared.statuses.Status.TheVariants.{Answered, CoreRefused, LogRefused, ReadFailed, WriteFailed, OutOfMemory, Usage as WrongUsage}
 use Rattle.rights.specs.declared.stopping.Stop.{Stop}
 use Rattle.rights.specs.declared.stopping.Stop.TheVariants.{Usage, LongCore, Core, Line, LongLog, Read, Put, Memory}
 
@@ -74,9 +74,9 @@ abbrev pub end_of : Result Status Stop → Status
 end_of (Ok status) = status
 end_of (Err stop) = status_of stop
 
--- a run that is refused as a whole ends by one line
+-- a run that is refused as a whole ends by one line, and so does a check
 abbrev pub EndsByLine : Status → Type 0
-EndsByLine status = (status ≡ WrongUsage) ⊎ (status ≡ CoreRefused) ⊎ (status ≡ LogRefused)
+EndsByLine status = (status ≡ WrongUsage) ⊎ (status ≡ CoreRefused) ⊎ (status ≡ LogRefused) ⊎ (status ≡ Answered)
 
 -- the lines of what was handled were written, and one line is left, which ends the outcome
 pub record LacksLine (job : Job) (before now : Option (List (List ℕ))) (line : List ℕ) (status : Status) : Type 0 where
@@ -101,6 +101,26 @@ pub record StopsForFiles (core_known log_known : Known) (before now : Option (Li
   pub core_is : MayBe core_known core
   pub log_is : IsAccepted core → MayBe log_known log
   pub stops : EndsOrStops (job_of core log) before now result
+
+-- the line of an accepted core
+pub record HasCoreLine (core_known : Known) (line : List ℕ) : Type 0 where
+  pub core : List ℕ
+  pub core_is : MayBe core_known core
+  pub job_is : check_job core ≡ one_line line Answered
+
+-- the line by which a core is refused
+pub record RefusesCore (core_known : Known) (why : Stop) : Type 0 where
+  pub core : List ℕ
+  pub core_is : MayBe core_known core
+  pub line : List ℕ
+  pub line_is : line_of why ≡ Some line
+  pub status_is : status_of why ≡ CoreRefused
+  pub job_is : check_job core ≡ one_line line CoreRefused
+
+-- a check has its line, or why it stops: the core is refused, or it couldn't be read or memory ran out
+abbrev pub ChecksCore : Known → Result (List ℕ) Stop → Type 0
+ChecksCore known (Ok line) = HasCoreLine known line
+ChecksCore known (Err why) = (why ≡ Read) ⊎ (why ≡ Memory) ⊎ RefusesCore known why
 
 -- so much of the job of a log was written, from a moment on
 pub record StopsForLog (start : History) (log_known : Known) (before now : Option (List (List ℕ))) (result : Result Status Stop) : Type 0 where

@@ -57,7 +57,7 @@ pub fn answer_ready<K: Sink, L: Ledger>(
 }
 
 /// The event of the next line that isn't skipped; none where each line that has come to its end is taken.
-fn next_event(lines: &mut Lines) -> Result<Option<Event>, Stop>
+pub fn next_event(lines: &mut Lines) -> Result<Option<Event>, Stop>
     requires { lines.old.refused ≡ None }
     ensures { ReadsNext lines.old lines.new result }
 {
@@ -67,7 +67,7 @@ fn next_event(lines: &mut Lines) -> Result<Option<Event>, Stop>
 }
 
 /// Handles the event of the line of a number.
-fn step<L: Ledger>(
+pub fn step<L: Ledger>(
     session: &mut Session<'_, L>,
     event: &Event,
     number: u64,

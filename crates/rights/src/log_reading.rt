@@ -13,6 +13,7 @@ ghost use Rattle.rights.specs.Run.{IsUnread};
 ghost use Rattle.rights.specs.Stopping.{end_of, StopsForLog};
 
 use crate::answering::answer_ready;
+use crate::limits::LOG_LIMIT;
 use crate::statuses::Status;
 use crate::stopping::Stop;
 use audit_core::Session;
@@ -21,9 +22,6 @@ use outside::{Failed, Shelf, Sink};
 use phys_view::{Ledger, Steps};
 use rights_report::LineBuffer;
 use std::alloc::Global;
-
-/// The greatest length of a log in bytes.
-const LOG_LIMIT: u64 = 268_435_456;
 
 /// The length of the buffer that the pieces of a log are read into.
 ///
@@ -117,7 +115,7 @@ fn next_piece<S: Shelf>(
 }
 
 /// How a run ends after the last line of a log.
-fn end(stale: bool) -> Status
+pub fn end(stale: bool) -> Status
     ensures { result ≡ end_status stale }
 {
     if stale {

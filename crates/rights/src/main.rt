@@ -1,4 +1,5 @@
-//! Answers the lines of a log about a memory core: `run CORE LOG`.
+//! Answers the lines of a log about a memory core: `run CORE LOG`. Says what a core states: `check CORE`. Sums up the
+//! answers to a generated log: `gen SEED COUNT`.
 //!
 //! The program is the top call `run` over the host's files and standard output. Its exit status is that of the call, 6
 //! where the rest of the output isn't taken, or 9 where it can't get its arguments.
@@ -11,18 +12,21 @@ ghost use Rattle.std.specs.Prelude.{◌≡◌, ◌≢◌, ◌⊎◌, ◌<◌, �
 ghost use Rattle.outside.specs.Count.{Rose};
 ghost use Rattle.outside.specs.Shelf.{has_bytes};
 ghost use Rattle.outside.specs.WriterSink.{waiting_bytes, write_fault_count};
-ghost use Rattle.rights.specs.Arguments.{form_of as form_of_texts, texts, HasNoForm, IsNamed, IsRun};
+ghost use Rattle.rights.specs.Arguments.{form_of as form_of_texts, texts, HasNoForm, IsCheck, IsGen, IsNamed, IsRun};
 ghost use Rattle.rights.specs.Ends.{AddsOutcome, Ends};
 ghost use Rattle.rights.specs.Jobs.{one_line};
 ghost use Rattle.rights.specs.LogPieces.{FailsAtReach};
-ghost use Rattle.rights.specs.Reads.{FailedToRead, FailsOnlyBy, ReadsOnly};
-ghost use Rattle.rights.specs.Run.{EndsForFiles, EndsWith, IsAccepted, IsUnread, job_of};
+ghost use Rattle.rights.specs.Reads.{FailedToReadFor, FailsOnlyBy, ReadsOnly};
+ghost use Rattle.rights.specs.Run.{EndsBySummary, EndsForCore, EndsForFiles, EndsWith, IsAccepted, IsUnread, check_job, gen_job, job_of};
 ghost use Rattle.rights_report.specs.FixedLines.{usage_line};
 
 mod answering;
 mod arguments;
+mod checking;
 mod examples;
+mod generating;
 mod laws;
+mod limits;
 mod log_reading;
 mod program;
 mod statuses;
@@ -82,9 +86,16 @@ fn run_and_flush<S: Shelf, W: Write>(
         → EndsWith result (λ status. (status ≡ Status.WriteFailed)
         ⊎ ((status ≢ Status.Usage) × (IsUnread None None status
         ⊎ EndsForFiles (S.known shelf.old core) (S.known shelf.old log) None None status))) }
+    ensures checked { (core : List ℕ) → IsCheck arguments.now core
+        → EndsWith result (λ status. (status ≡ Status.WriteFailed)
+        ⊎ ((status ≢ Status.Usage) × (IsUnread None None status
+        ⊎ EndsForCore (S.known shelf.old core) None None status))) }
+    ensures generated { (seed count : ℕ) → IsGen arguments.now seed count
+        → EndsWith result (λ status. EndsBySummary status
+        × ((status ≡ Status.WriteFailed) ⊎ Ends (gen_job seed count) None None status)) }
     ensures causes { EndsWith result (FailsOnlyBy
-        ((core log : List ℕ) × IsRun arguments.now core log
-        × FailedToRead (S.known shelf.old) (S.faults shelf.old) (S.faults shelf.new) core log)
+        (FailedToReadFor arguments.now
+        (S.known shelf.old) (S.faults shelf.old) (S.faults shelf.new))
         (Rose (write_fault_count out.old) (write_fault_count out.new))) }
     ensures complete { (core log core_bytes log_bytes : List ℕ) → IsRun arguments.now core log
         → S.known shelf.old core ≡ has_bytes core_bytes
@@ -93,6 +104,16 @@ fn run_and_flush<S: Shelf, W: Write>(
         → ¬ Rose (S.faults shelf.old log) (S.faults shelf.new log)
         → ¬ Rose (write_fault_count out.old) (write_fault_count out.new)
         → EndsWith result (λ status. AddsOutcome (job_of core_bytes log_bytes) None None status
+        ⊎ (status ≡ Status.OutOfMemory)) }
+    ensures check_complete { (core bytes : List ℕ) → IsCheck arguments.now core
+        → S.known shelf.old core ≡ has_bytes bytes
+        → ¬ Rose (S.faults shelf.old core) (S.faults shelf.new core)
+        → ¬ Rose (write_fault_count out.old) (write_fault_count out.new)
+        → EndsWith result (λ status. AddsOutcome (check_job bytes) None None status
+        ⊎ (status ≡ Status.OutOfMemory)) }
+    ensures gen_complete { (seed count : ℕ) → IsGen arguments.now seed count
+        → ¬ Rose (write_fault_count out.old) (write_fault_count out.new)
+        → EndsWith result (λ status. AddsOutcome (gen_job seed count) None None status
         ⊎ (status ≡ Status.OutOfMemory)) }
     ensures reads { ReadsOnly (IsNamed (form_of_texts (texts arguments.now)))
         (S.known shelf.old) (S.known shelf.new) (S.reach shelf.old) (S.reach shelf.new)
@@ -132,14 +153,21 @@ fn run_uncounted<S: Shelf, K: Sink>(
         × (IsUnread (K.pieces out.old) (K.pieces out.new) status
         ⊎ EndsForFiles (S.known shelf.old core) (S.known shelf.old log)
         (K.pieces out.old) (K.pieces out.new) status)) }
+    ensures checked { (core : List ℕ) → IsCheck arguments.now core
+        → EndsWith result (λ status. (status ≢ Status.Usage)
+        × (IsUnread (K.pieces out.old) (K.pieces out.new) status
+        ⊎ EndsForCore (S.known shelf.old core) (K.pieces out.old) (K.pieces out.new) status)) }
+    ensures generated { (seed count : ℕ) → IsGen arguments.now seed count
+        → EndsWith result (λ status. EndsBySummary status
+        × Ends (gen_job seed count) (K.pieces out.old) (K.pieces out.new) status) }
     ensures read_failed { (core log bytes : List ℕ) → IsRun arguments.now core log
         → S.known shelf.old log ≡ has_bytes bytes
         → EndsWith result (λ status. status ≡ Status.ReadFailed
         → FailsAtReach core log (S.known shelf.old core) bytes
         (S.reach shelf.old log) (S.reach shelf.new log) (K.pieces out.old) (K.pieces out.new)) }
     ensures causes { EndsWith result (FailsOnlyBy
-        ((core log : List ℕ) × IsRun arguments.now core log
-        × FailedToRead (S.known shelf.old) (S.faults shelf.old) (S.faults shelf.new) core log)
+        (FailedToReadFor arguments.now
+        (S.known shelf.old) (S.faults shelf.old) (S.faults shelf.new))
         (Rose (K.faults out.old) (K.faults out.new))) }
     ensures complete { (core log core_bytes log_bytes : List ℕ) → IsRun arguments.now core log
         → S.known shelf.old core ≡ has_bytes core_bytes
@@ -149,6 +177,18 @@ fn run_uncounted<S: Shelf, K: Sink>(
         → ¬ Rose (K.faults out.old) (K.faults out.new)
         → EndsWith result (λ status.
         AddsOutcome (job_of core_bytes log_bytes) (K.pieces out.old) (K.pieces out.new) status
+        ⊎ (status ≡ Status.OutOfMemory)) }
+    ensures check_complete { (core bytes : List ℕ) → IsCheck arguments.now core
+        → S.known shelf.old core ≡ has_bytes bytes
+        → ¬ Rose (S.faults shelf.old core) (S.faults shelf.new core)
+        → ¬ Rose (K.faults out.old) (K.faults out.new)
+        → EndsWith result (λ status.
+        AddsOutcome (check_job bytes) (K.pieces out.old) (K.pieces out.new) status
+        ⊎ (status ≡ Status.OutOfMemory)) }
+    ensures gen_complete { (seed count : ℕ) → IsGen arguments.now seed count
+        → ¬ Rose (K.faults out.old) (K.faults out.new)
+        → EndsWith result (λ status.
+        AddsOutcome (gen_job seed count) (K.pieces out.old) (K.pieces out.new) status
         ⊎ (status ≡ Status.OutOfMemory)) }
     ensures reads { ReadsOnly (IsNamed (form_of_texts (texts arguments.now)))
         (S.known shelf.old) (S.known shelf.new) (S.reach shelf.old) (S.reach shelf.new)
@@ -181,14 +221,21 @@ fn run_with<S: Shelf, K: Sink, B: Books>(
         × (IsUnread (K.pieces out.old) (K.pieces out.new) status
         ⊎ EndsForFiles (S.known shelf.old core) (S.known shelf.old log)
         (K.pieces out.old) (K.pieces out.new) status)) }
+    ensures checked { (core : List ℕ) → IsCheck arguments.now core
+        → EndsWith result (λ status. (status ≢ Status.Usage)
+        × (IsUnread (K.pieces out.old) (K.pieces out.new) status
+        ⊎ EndsForCore (S.known shelf.old core) (K.pieces out.old) (K.pieces out.new) status)) }
+    ensures generated { (seed count : ℕ) → IsGen arguments.now seed count
+        → EndsWith result (λ status. EndsBySummary status
+        × Ends (gen_job seed count) (K.pieces out.old) (K.pieces out.new) status) }
     ensures read_failed { (core log bytes : List ℕ) → IsRun arguments.now core log
         → S.known shelf.old log ≡ has_bytes bytes
         → EndsWith result (λ status. status ≡ Status.ReadFailed
         → FailsAtReach core log (S.known shelf.old core) bytes
         (S.reach shelf.old log) (S.reach shelf.new log) (K.pieces out.old) (K.pieces out.new)) }
     ensures causes { EndsWith result (FailsOnlyBy
-        ((core log : List ℕ) × IsRun arguments.now core log
-        × FailedToRead (S.known shelf.old) (S.faults shelf.old) (S.faults shelf.new) core log)
+        (FailedToReadFor arguments.now
+        (S.known shelf.old) (S.faults shelf.old) (S.faults shelf.new))
         (Rose (K.faults out.old) (K.faults out.new))) }
     ensures complete { (core log core_bytes log_bytes : List ℕ) → IsRun arguments.now core log
         → S.known shelf.old core ≡ has_bytes core_bytes
@@ -198,6 +245,18 @@ fn run_with<S: Shelf, K: Sink, B: Books>(
         → ¬ Rose (K.faults out.old) (K.faults out.new)
         → EndsWith result (λ status.
         AddsOutcome (job_of core_bytes log_bytes) (K.pieces out.old) (K.pieces out.new) status
+        ⊎ (status ≡ Status.OutOfMemory)) }
+    ensures check_complete { (core bytes : List ℕ) → IsCheck arguments.now core
+        → S.known shelf.old core ≡ has_bytes bytes
+        → ¬ Rose (S.faults shelf.old core) (S.faults shelf.new core)
+        → ¬ Rose (K.faults out.old) (K.faults out.new)
+        → EndsWith result (λ status.
+        AddsOutcome (check_job bytes) (K.pieces out.old) (K.pieces out.new) status
+        ⊎ (status ≡ Status.OutOfMemory)) }
+    ensures gen_complete { (seed count : ℕ) → IsGen arguments.now seed count
+        → ¬ Rose (K.faults out.old) (K.faults out.new)
+        → EndsWith result (λ status.
+        AddsOutcome (gen_job seed count) (K.pieces out.old) (K.pieces out.new) status
         ⊎ (status ≡ Status.OutOfMemory)) }
     ensures reads { ReadsOnly (IsNamed (form_of_texts (texts arguments.now)))
         (S.known shelf.old) (S.known shelf.new) (S.reach shelf.old) (S.reach shelf.new)

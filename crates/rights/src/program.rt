@@ -3,16 +3,19 @@
 ghost use Rattle.std.specs.Prelude.{◌≡◌, ◌≢◌, ◌⊎◌, ◌≤◌, ℕ, List, Err, IfOk};
 ghost use Rattle.outside.specs.Count.{Rose};
 ghost use Rattle.outside.specs.Shelf.{has_bytes};
-ghost use Rattle.rights.specs.Arguments.{form_of as form_of_texts, texts, HasNoForm, IsNamed, IsRun};
+ghost use Rattle.rights.specs.Arguments.{form_of as form_of_texts, texts, HasNoForm, IsCheck, IsGen, IsNamed, IsRun};
 ghost use Rattle.rights.specs.Ends.{AddsOutcome, Ends};
 ghost use Rattle.rights_report.specs.FixedLines.{usage_line};
 ghost use Rattle.rights.specs.Jobs.{one_line};
 ghost use Rattle.rights.specs.LogPieces.{FailsAtReach};
-ghost use Rattle.rights.specs.Reads.{FailedToRead, FailsOnlyBy, ReadsOnly};
-ghost use Rattle.rights.specs.Run.{EndsForFiles, EndsWith, IsAccepted, IsUnread, job_of};
+ghost use Rattle.rights.specs.Reads.{FailedToRead, FailedToReadFor, FailsOnlyBy, ReadsOnly};
+ghost use Rattle.rights.specs.Run.{EndsBySummary, EndsForCore, EndsForFiles, EndsWith, IsAccepted, IsUnread, check_job, gen_job, job_of};
 ghost use Rattle.rights.specs.Stopping.{end_of, StopsForFiles};
 
 use crate::arguments::{Form, form_of};
+use crate::checking::check;
+use crate::generating::generate;
+use crate::limits::CORE_LIMIT;
 use crate::log_reading::answer_log;
 use crate::statuses::Status;
 use crate::stopping::{Stop, finish};
@@ -22,17 +25,15 @@ use outside::{Shelf, Sink, read_all};
 use phys_view::{Ledger, Steps};
 use std::alloc::Global;
 
-/// The greatest length of a core in bytes.
-pub const CORE_LIMIT: u64 = 2_147_483_648;
-
-/// Does all that the program does: answers the lines of a log about a core.
+/// Does all that the program does: answers the lines of a log about a core, or says what a core states.
 ///
 /// The arguments `run CORE LOG` name two files of the shelf. What is written is their outcome: the lines that
-/// `IsOutcome` gives for the core's bytes and the log's, each put as one piece.
+/// `IsOutcome` gives for the core's bytes and the log's, each put as one piece. Of `check CORE` it is one line, and of
+/// `gen SEED COUNT` the summary of a log that is generated.
 ///
 /// | Exit status | Where | What was written |
 /// |---|---|---|
-/// | 0 | the log was read to its end and no line was refused | the outcome |
+/// | 0 | the log was answered to its end; or the core is accepted | the outcome |
 /// | 1 | and some point found a stale translation | the outcome |
 /// | 2 | the arguments have no known form | the usage line |
 /// | 3 | the core is refused | the outcome: the refusal |
@@ -67,10 +68,21 @@ pub fn run<S: Shelf, K: Sink, L: Ledger>(
         → FailsAtReach core log (S.known shelf.old core) bytes
         (S.reach shelf.old log) (S.reach shelf.new log) (K.pieces out.old) (K.pieces out.new)) }
 
+    // A check writes the core's line or its refusal, as far as the status has it; or nothing.
+    ensures checked { (core : List ℕ) → IsCheck arguments.now core
+        → EndsWith result (λ status. (status ≢ Status.Usage)
+        × (IsUnread (K.pieces out.old) (K.pieces out.new) status
+        ⊎ EndsForCore (S.known shelf.old core) (K.pieces out.old) (K.pieces out.new) status)) }
+
+    // A generated run writes its summary, as far as the status has it.
+    ensures generated { (seed count : ℕ) → IsGen arguments.now seed count
+        → EndsWith result (λ status. EndsBySummary status
+        × Ends (gen_job seed count) (K.pieces out.old) (K.pieces out.new) status) }
+
     // Faults have causes: reads failed of the core, or of the log of an accepted core; a put failed.
     ensures causes { EndsWith result (FailsOnlyBy
-        ((core log : List ℕ) × IsRun arguments.now core log
-        × FailedToRead (S.known shelf.old) (S.faults shelf.old) (S.faults shelf.new) core log)
+        (FailedToReadFor arguments.now
+        (S.known shelf.old) (S.faults shelf.old) (S.faults shelf.new))
         (Rose (K.faults out.old) (K.faults out.new))) }
 
     // Where both files are known and nothing failed, there is an outcome and it was written, or memory ran out.
@@ -82,6 +94,20 @@ pub fn run<S: Shelf, K: Sink, L: Ledger>(
         → ¬ Rose (K.faults out.old) (K.faults out.new)
         → EndsWith result (λ status.
         AddsOutcome (job_of core_bytes log_bytes) (K.pieces out.old) (K.pieces out.new) status
+        ⊎ (status ≡ Status.OutOfMemory)) }
+
+    ensures check_complete { (core bytes : List ℕ) → IsCheck arguments.now core
+        → S.known shelf.old core ≡ has_bytes bytes
+        → ¬ Rose (S.faults shelf.old core) (S.faults shelf.new core)
+        → ¬ Rose (K.faults out.old) (K.faults out.new)
+        → EndsWith result (λ status.
+        AddsOutcome (check_job bytes) (K.pieces out.old) (K.pieces out.new) status
+        ⊎ (status ≡ Status.OutOfMemory)) }
+
+    ensures gen_complete { (seed count : ℕ) → IsGen arguments.now seed count
+        → ¬ Rose (K.faults out.old) (K.faults out.new)
+        → EndsWith result (λ status.
+        AddsOutcome (gen_job seed count) (K.pieces out.old) (K.pieces out.new) status
         ⊎ (status ≡ Status.OutOfMemory)) }
 
     // Only the files that the arguments name are read, the log of an accepted core alone; no count of faults falls.
@@ -96,6 +122,8 @@ pub fn run<S: Shelf, K: Sink, L: Ledger>(
 {
     match form_of(arguments) {
         Some(Form::Run { core, log }) => answer(alloc, core, log, shelf, out, steps).code(),
+        Some(Form::Check { core }) => check(alloc, core, shelf, out).code(),
+        Some(Form::Gen { seed, count }) => generate(alloc, seed, count, out, steps).code(),
         None => finish(alloc, Stop::Usage, out).code(),
     }
 }

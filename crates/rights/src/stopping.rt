@@ -151,7 +151,7 @@ fn put_text<K: Sink>(text: Result<Text, AllocError>, status: Status, out: &mut K
 }
 
 /// Puts the line with which a run ends in a status.
-fn put_last<K: Sink>(line: &[u8], status: Status, out: &mut K) -> Status
+pub fn put_last<K: Sink>(line: &[u8], status: Status, out: &mut K) -> Status
     requires { EndsByLine status }
     ensures puts { Ends (one_line line.now status) (K.pieces out.old) (K.pieces out.new) result }
     ensures cause { result ≡ Status.WriteFailed → Rose (K.faults out.old) (K.faults out.new) }

@@ -1,5 +1,7 @@
 //! Runs over files in memory, whose outputs were worked out by hand.
 
+mod checks;
+mod generated;
 mod points;
 
 use super::*;
@@ -530,7 +532,9 @@ fn words_of_no_form_get_the_usage_line(rt: HostRuntime) -> Result<(), Fail> {
         &["run", "core"],
         &["walk", "core", "log"],
         &["run", "core", "log", "more"],
-        &["check", "core"],
+        &["check"],
+        &["check", "core", "log"],
+        &["gen", "7"],
     ] {
         let mut out = MemSink::new(alloc);
         let status = run_uncounted(alloc, words, &mut MemShelf::new(alloc), &mut out);

@@ -25,3 +25,13 @@ returns-in-Err-clause-causes g c = (
 
 pub returns-in-Err-clause-flushed : goal.returns-in-Err-clause-flushed
 returns-in-Err-clause-flushed g c = (WriteFailed, c.code.ensures, inl refl)
+
+pub returns-in-Ok-clause-check_complete : goal.returns-in-Ok-clause-check_complete
+returns-in-Ok-clause-check_complete g c = λ core bytes is known core_read written.
+    c.run_uncounted-code.ensures.check_complete core bytes is known core_read (λ rose. written (omega (arith, rose, c.in-Ok.ensures.faults)))
+
+pub returns-in-Err-clause-checked : goal.returns-in-Err-clause-checked
+returns-in-Err-clause-checked g c = λ core is. (WriteFailed, c.code.ensures, inl refl)
+
+pub returns-in-Err-clause-generated : goal.returns-in-Err-clause-generated
+returns-in-Err-clause-generated g c = λ seed count is. (WriteFailed, c.code.ensures, (inr (inr (inl refl)), inl refl))
