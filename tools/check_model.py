@@ -6,8 +6,9 @@ each name that a section gives stands in a file that the section links, that eac
 file of definitions with every public name in it, and that the page's laws are those that are proved. With --write it
 writes the index anew.
 
-The files of definitions are those of the model's two crates, and of others those that say what a core states, what a log
-is, what a session stands for, what it keeps of the past, what is written for them, how a run ends, and what an event costs.
+The files of definitions are those of the model's two crates, and of others those that say what a core states, what a
+log is, what a session stands for, what it keeps of the past, what is written for them, how a run ends, what an event
+costs, and which core and log are generated.
 """
 
 import re
@@ -26,8 +27,9 @@ CRATES = {
     "audit_core": ("Standing", "Remembering"),
     "version_store": ("Changes", "WrittenChanges"),
     "cache_rules": ("Standing",),
+    "image_gen": ("Accepted", "GeneratedCore", "GeneratedLog", "GeneratedTables", "LineTexts", "StatedCore"),
     "rights_report": (),
-    "rights": ("Arguments", "HandledLines", "Jobs", "LineByLine", "Outcome", "Run", "Statuses"),
+    "rights": ("Arguments", "HandledLines", "Jobs", "LineByLine", "Outcome", "Run", "Statuses", "Summaries"),
 }
 HEADING = "## Where each definition stands"
 DEFINED = re.compile(r"^ *(?:(?:abbrev|unfoldable) pub|pub (?:data|record|unfoldable|abbrev)) (\w+)", re.M)
@@ -92,15 +94,17 @@ def check_names(text):
 
 
 def check_laws(text):
-    """The functions of the three crates of laws, and the program's laws, are those of the page's tables of laws."""
+    """The functions of the crates of laws, and of other crates' modules of laws, are those of the tables of laws."""
     proved = set()
-    for pattern in ("paging_laws/src/*.rt", "history_laws/src/*.rt", "audit_laws/src/*.rt", "rights/src/laws.rt"):
+    patterns = [f"{crate}/src/*.rt" for crate in ("paging_laws", "history_laws", "audit_laws")]
+    for pattern in (*patterns, "image_gen/src/laws.rt", "rights/src/laws.rt"):
         for path in (ROOT / "crates").glob(pattern):
             proved |= set(re.findall(r"^pub fn (\w+)", path.read_text(encoding="utf-8"), re.M))
     part = text.split("\n## Laws\n")[1].split("\n## ")[0]
     listed = {name for row in re.findall(r"^\|.*\|(.*)\|$", part, re.M) for name in re.findall(r"`(\w+)`", row)}
     for name in sorted(listed ^ proved):
-        raise SystemExit(f"{name}: " + ("it is listed as a law and isn't one" if name in listed else "the page doesn't list this law"))
+        why = "it is listed as a law and isn't one" if name in listed else "the page doesn't list this law"
+        raise SystemExit(f"{name}: {why}")
 
 
 def main():
@@ -112,7 +116,8 @@ def main():
     if sys.argv[1:] == ["--write"]:
         PAGE.write_text(wanted, encoding="utf-8")
     elif text != wanted:
-        raise SystemExit("docs/MODEL.md: the index isn't that of the definitions: tools/check_model.py --write makes it")
+        why = "the index isn't that of the definitions: tools/check_model.py --write makes it"
+        raise SystemExit(f"docs/MODEL.md: {why}")
 
 
 if __name__ == "__main__":

@@ -25,6 +25,7 @@ from pathlib import Path
 import audit_cases
 import slow_audit
 import slow_caches
+import slow_gen
 from listing_cases import CASES, LIMITS, listed
 from make_example import (
     FILE_HEADER_SIZE,
@@ -41,13 +42,16 @@ from make_example import (
     state_note,
 )
 from slow_listing import RandomRun
-from slow_session import Session
+from slow_session import Registers, Session
 
 CRATE = Path(__file__).resolve().parent.parent / "crates" / "rights"
 PAGE = CRATE.parents[1] / "docs" / "SHOOTDOWN.md"
 BUILT = [CRATE / "out" / "rights", CRATE / "out" / "rights.by-rattle"]
 
 USAGE = b"usage: run CORE LOG | check CORE | gen SEED COUNT\n"
+# What a run over the example writes.
+EXAMPLE_ANSWERS = b"granted 0x6234\ndenied write\ndenied absent 1\ndenied not-canonical\ndenied smap\n"
+EXAMPLE_ANSWERS += b"granted 0x5000\ngranted 0x6234\n"
 MEBIBYTE = 1 << 20
 NOBODY = 65534
 
@@ -60,6 +64,12 @@ PAGE_LIMIT = 262_144
 
 # Bits of an entry: present, writes allowed, user accesses allowed, large page, execute-disable.
 P, W, U, PS, XD = 1, 2, 4, 1 << 7, 1 << 63
+
+# Spellings of numbers as a log has them, with their values, and words that spell none. Of those that spell a number too
+# large, some are 7 once their upper digits or bits are lost.
+SPELLINGS = {"7": 7, "007": 7, "0" * 19 + "7": 7, "0x7": 7, "0x" + "0" * 15 + "7": 7, "0x1F": 31, "0x1f": 31}
+MISSPELLINGS = ["", "0x", "0X7", "x7", "7x", "0x0x7", "0xg", "1f", "+7", "-7", "-0", " 7", "7 ", "7\n", "7.0", "7e0"]
+MISSPELLINGS += ["seven", "\uff17", "0" * 20 + "7", "9" * 20, f"{2**64 + 7}", "0x" + "0" * 16 + "7", f"{2**64 + 7:#x}"]
 
 # The programs to run, and how many runs there were.
 programs = []
@@ -93,8 +103,7 @@ def paged_core(pages, machine=machine_note()):
 
 def repeated_core(count, size):
     """A core of so many segments in a row, up to where the bytes begin that each of them has."""
-    head = bytearray(file_header())
-    struct.pack_into("<H", head, 56, count + 1)
+    head = bytearray(file_header(count + 1))
     notes_offset = FILE_HEADER_SIZE + PROGRAM_HEADER_SIZE * (count + 1)
     head += program_header(4, notes_offset, NOTES_SIZE)
     for number in range(count):
@@ -169,6 +178,13 @@ def limited(kind, most):
         resource.setrlimit(kind, (most, most))
 
     return limit
+
+
+def closed_pipe():
+    """A pipe that nobody reads from."""
+    reader, writer = os.pipe()
+    os.close(reader)
+    return os.fdopen(writer, "wb")
 
 
 def become_nobody():
@@ -251,6 +267,9 @@ def describe(written, text):
 class Statuses(Program):
     def test_0_the_example(self):
         self.write_example()
+        self.ends(["run", "example.core", "example.log"], 0, EXAMPLE_ANSWERS)
+
+    def test_0_the_stored_run(self):
         words = (CRATE / "args").read_text().split()
         self.ends(words, 0, (CRATE / "stdout").read_bytes())
 
@@ -302,7 +321,15 @@ class Statuses(Program):
             ["run", core, log, ""],
             ["run", core, log, log],
             ["run", core, log, log, log],
-            ["check", core],
+            ["check"],
+            ["check", core, log],
+            ["check", core, ""],
+            ["Check", core],
+            ["gen"],
+            ["gen", "7"],
+            ["gen", "7", "3", "3"],
+            ["gen", "7", "3", ""],
+            ["Gen", "7", "3"],
         ):
             self.ends(words, 2, USAGE)
 
@@ -438,15 +465,9 @@ class Statuses(Program):
     def test_6_a_closed_pipe(self):
         self.write_example()
         self.write("many", b"ask 0 ur 0x0\n" * 30_000)
-
-        def closed():
-            reader, writer = os.pipe()
-            os.close(reader)
-            return os.fdopen(writer, "wb")
-
-        self.ends_in(closed, ["run", "example.core", "example.log"], 6)
-        self.ends_in(closed, ["run", "example.core", "many"], 6)
-        self.ends_in(closed, [], 6)
+        self.ends_in(closed_pipe, ["run", "example.core", "example.log"], 6)
+        self.ends_in(closed_pipe, ["run", "example.core", "many"], 6)
+        self.ends_in(closed_pipe, [], 6)
 
     def test_6_a_file_that_takes_a_part(self):
         self.write("core", paged_core(PAGES, WIDE))
@@ -469,7 +490,7 @@ class Statuses(Program):
         # A log isn't held, however long it is.
         text = b"granted 0x5000\nline 2 refused: too long\n"
         self.ends(["run", "example.core", "log"], 4, text, limit)
-        self.ends(["run", "example.core", "example.log"], 0, (CRATE / "stdout").read_bytes(), limit)
+        self.ends(["run", "example.core", "example.log"], 0, EXAMPLE_ANSWERS, limit)
         # Each page that is written to takes memory.
         size = 16 * MEBIBYTE
         start = repeated_core(64, size)
@@ -592,6 +613,190 @@ class Points(Program):
             self.assertGreater(seen[f"points {scope}: yes"], RANDOM_HISTORIES)
         for case in slow_caches.CASES_OF_FINDINGS:
             self.assertGreater(seen[case], RANDOM_HISTORIES // 10, case)
+
+
+class Checks(Program):
+    def says(self, core, text):
+        self.write("core", core)
+        self.ends(["check", "core"], 0, b"core ok: " + text + b"\n")
+
+    def refuses(self, core, why):
+        self.write("core", core)
+        self.ends(["check", "core"], 3, b"core refused: " + why + b"\n")
+
+    def test_0_a_core_that_states_all(self):
+        self.write_example()
+        self.ends(["check", "example.core"], 0, b"core ok: segments 1, processors 1, machine 40 1\n")
+        memory = [(0, page_tables())]
+        self.says(core_of(memory, machine_note(32, 0) + processor_note()), b"segments 1, processors 1, machine 32 0")
+        # Two segments that overlap are two, and processors have any numbers.
+        notes = processor_note(number=7) + processor_note(number=0xFFFFFFFF) + processor_note(number=0)
+        self.says(core_of(memory * 2, machine_note() + notes), b"segments 2, processors 3, machine 40 1")
+        self.says(core_of(memory, notes), b"segments 1, processors 3, machine 52 1")
+
+    def test_0_a_core_without_notes(self):
+        self.says(core_of([(0, page_tables())], b""), b"segments 1, processors 0, machine 52 1")
+        self.says(file_header(0), b"segments 0, processors 0, machine 52 1")
+        # Notes of other owners state nothing.
+        other = struct.pack("<III", 5, 8, 1) + b"CORE\0\0\0\0" + bytes(8)
+        self.says(core_of([(0, page_tables())], other), b"segments 1, processors 0, machine 52 1")
+
+    def test_0_segments_that_count_none(self):
+        start = file_header(5) + program_header(1, 344, 8, 0x1000)
+        start += program_header(1, 1 << 63, 0) + program_header(1, 344, 8, (1 << 64) - 1) + program_header(2, 344, 8)
+        self.says(start + program_header(1, 344, 8) + bytes(8), b"segments 2, processors 0, machine 52 1")
+
+    def test_0_as_many_as_there_may_be(self):
+        notes = b"".join(processor_note(number=number) for number in range(65))
+        self.says(core_of([], notes[: 64 * 88]), b"segments 0, processors 64, machine 52 1")
+        self.refuses(core_of([], notes), b"note state 0 too many")
+        core = repeated_core(0xFFFE - 1, 1) + bytes(1)
+        self.says(core, b"segments 65533, processors 1, machine 40 1")
+
+    def test_3_a_refused_core(self):
+        self.write_example()
+        core = (self.room / "example.core").read_bytes()
+        for size, why in ((0, b"short"), (63, b"short"), (100, b"header range"), (65_831, b"segment range 1")):
+            self.refuses(core[:size], why)
+        self.refuses(b"\x7fELG" + core[4:], b"not elf")
+        self.refuses(core_of([], machine_note() * 2), b"note state 0 twice")
+        self.refuses(core_of([], machine_note() + processor_note(cr3=1 << 40)), b"note state 0 cr3-reserved")
+
+    def test_3_a_core_that_is_too_long(self):
+        # The file has a hole, and takes no room.
+        self.write("core", segment_core(65536) + page_tables(), (1 << 31) + 1)
+        self.ends(["check", "core"], 3, b"core refused: too long\n")
+
+    def test_5_no_file(self):
+        for name in ("no core", "", "."):
+            self.ends(["check", name], 5)
+
+    def test_6_output_that_fails(self):
+        self.write_example()
+        text = b"core ok: segments 1, processors 1, machine 40 1\n"
+        words = ["check", "example.core"]
+        self.ends_in(lambda: open("/dev/full", "wb"), words, 6)
+        self.ends_in(closed_pipe, words, 6)
+        self.ends_in(closed_pipe, ["check", "no core"], 5)
+        for most in (0, 1, len(text) - 1):
+            self.ends_in("output", words, 6, text[:most], limited(resource.RLIMIT_FSIZE, most))
+        self.ends_in("output", words, 0, text, limited(resource.RLIMIT_FSIZE, len(text)))
+
+    def test_7_out_of_memory(self):
+        size = 256 * MEBIBYTE
+        self.write("core", segment_core(size - SEGMENT_OFFSET), size)
+        self.ends(["check", "core"], 7, limit=limited(resource.RLIMIT_AS, 64 * MEBIBYTE))
+
+    def test_9_a_name_that_is_no_text(self):
+        self.ends([b"check", b"\xff"], 9)
+
+
+class Generated(Program):
+    """`gen` beside `run` over the files of tools/slow_gen.py."""
+
+    def is_the_run(self, seed, count, words=None):
+        """What `gen` prints is counted from what `run` answers over the same core and log, and so is its status."""
+        self.write("generated.core", slow_gen.core())
+        self.write("generated.log", slow_gen.log(seed, count))
+        words = ["gen", *(words or [str(seed), str(count)])]
+        for program in programs:
+            run = self.run_one(program, ["run", "generated.core", "generated.log"], subprocess.PIPE)
+            self.assertIn(run.returncode, (0, 1), f"{words}: a line is refused")
+            text = slow_gen.summary_of(slow_gen.lines(seed, count), run.stdout)
+            done = self.run_one(program, words, subprocess.PIPE)
+            self.same(program, words, done, run.returncode, done.stdout, text)
+
+    def test_0_three_lines(self):
+        text = b"events 3\nwrites 0\nsets 0\ninvalidations 3\ngranted 0\ndenied 0\nareas 0\n"
+        text += b"points yes 0\npoints no 0\n"
+        self.ends(["gen", "7", "3"], 0, text)
+        self.assertEqual(list(self.room.iterdir()), [])
+        self.is_the_run(7, 3)
+
+    def test_1_a_thousand_lines_twice(self):
+        text = b"events 1000\nwrites 494\nsets 102\ninvalidations 131\ngranted 268\ndenied 3\nareas 313\n"
+        text += b"points yes 0\npoints no 1\n"
+        for _ in range(2):
+            self.ends(["gen", "7", "1000"], 1, text)
+        self.is_the_run(7, 1000)
+
+    def test_1_as_many_lines_as_there_may_be(self):
+        # Each run takes about 0.1 s.
+        self.is_the_run(7, 100_000)
+
+    def test_other_seeds(self):
+        for seed in (0, 1, 6, 22, 65_535, 65_536, 2**30, 2**31 - 1):
+            for count in (1, 2, 499, 500, 501, 999, 1002, 3000):
+                with self.subTest(seed=seed, count=count):
+                    self.is_the_run(seed, count)
+
+    def test_the_slow_session_answers_so(self):
+        # It knows no points.
+        log = slow_gen.log(7, 1000).replace(b"point current\n", b"")
+        processors = {number: Registers() for number in range(2)}
+        text = Session([(0, slow_gen.memory())], processors, (40, 1)).run(log.decode())
+        self.write("core", slow_gen.core())
+        self.write("log", log)
+        self.ends(["run", "core", "log"], 0, text.encode())
+        self.ends(["check", "core"], 0, b"core ok: segments 1, processors 2, machine 40 1\n")
+
+    def test_spellings_of_numbers(self):
+        for word, value in SPELLINGS.items():
+            with self.subTest(word):
+                self.is_the_run(value, value, [word, word])
+
+    def test_the_ranges(self):
+        greatest = 2**31 - 1
+        for word in (f"{greatest}", f"{greatest:#x}", "0x7FFFFFFF"):
+            self.is_the_run(greatest, 5, [word, "5"])
+        for word in ("0", "0x0", "00"):
+            self.is_the_run(0, 5, [word, "5"])
+        for word in ("1", "0x1"):
+            self.is_the_run(7, 1, ["7", word])
+        for word in ("100000", "0x186a0", "0x186A0", "0000100000"):
+            self.is_the_run(7, 100_000, ["7", word])
+
+    def test_2_past_the_ranges(self):
+        for seed in (2**31, 2**32, 2**32 + 7, 2**63, 2**64 - 1):
+            for word in (f"{seed}", f"{seed:#x}"):
+                self.ends(["gen", word, "3"], 2, USAGE)
+        for count in (0, 100_001, 2**17, 2**31, 2**32, 2**32 + 3, 2**64 - 1):
+            for word in (f"{count}", f"{count:#x}", f"00{count}"):
+                self.ends(["gen", "7", word], 2, USAGE)
+
+    def test_2_words_that_are_no_numbers(self):
+        for word in MISSPELLINGS:
+            with self.subTest(word):
+                self.ends(["gen", word, "3"], 2, USAGE)
+                self.ends(["gen", "7", word], 2, USAGE)
+                self.ends(["gen", word, word], 2, USAGE)
+
+    def test_6_output_that_fails(self):
+        text = b"events 3\nwrites 0\nsets 0\ninvalidations 3\ngranted 0\ndenied 0\nareas 0\n"
+        text += b"points yes 0\npoints no 0\n"
+        for words in (["gen", "7", "3"], ["gen", "7", "1000"], ["gen", "7", "0"]):
+            self.ends_in(lambda: open("/dev/full", "wb"), words, 6)
+            self.ends_in(closed_pipe, words, 6)
+        words = ["gen", "7", "3"]
+        for most in (0, 1, 9, len(text) - 1):
+            self.ends_in("output", words, 6, text[:most], limited(resource.RLIMIT_FSIZE, most))
+        self.ends_in("output", words, 0, text, limited(resource.RLIMIT_FSIZE, len(text)))
+
+    def test_7_out_of_memory(self):
+        self.write_example()
+        for program in programs:
+            # The least whole number of MBytes with which the program starts and reads the example: less than one is
+            # left then, and the core alone takes more.
+            for size in range(1, 64):
+                limit = limited(resource.RLIMIT_AS, size * MEBIBYTE)
+                if self.run_one(program, ["check", "example.core"], subprocess.PIPE, limit).returncode == 0:
+                    break
+            words = ["gen", "7", "3"]
+            done = self.run_one(program, words, subprocess.PIPE, limit)
+            self.same(program, words, done, 7, done.stdout, b"")
+
+    def test_9_a_word_that_is_no_text(self):
+        self.ends([b"gen", b"7", b"\xff"], 9)
 
 
 class Output(Program):
