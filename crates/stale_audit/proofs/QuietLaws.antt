@@ -1,8 +1,9 @@
 -- A slot of a table to which the present tables lead too leads to nothing stale, where neither it nor a table below it has
 -- changed.
-use Rattle.std.proofs.Common.{◌≡◌, ℕ, ◌+◌, ◌-◌, ◌*◌, ◌/◌, ◌%◌, ◌^◌, ◌<◌, ◌≤◌, inl, inr, Bool, true, false, None, refl, sym, ap, ◌∙◌, subst, arith}
+use Rattle.std.proofs.Common.{◌≡◌, ℕ, zero, suc, ◌+◌, ◌-◌, ◌*◌, ◌/◌, ◌%◌, ◌^◌, ◌<◌, ◌≤◌, inl, inr, Bool, true, false, None, refl, sym, ap, ◌∙◌, subst, arith}
 use Rattle.std.specs.Prelude.{nat_lt, if◌then◌else◌}
 use Rattle.std.proofs.lemmas.Bool.{cases_lt}
+use Rattle.std.proofs.lemmas.Bool.Decides.{nat_tests}
 use Rattle.std.proofs.lemmas.Nat.{div-add-mod', div-mul-add}
 use Rattle.paging_model.specs.Entries.{root_bits}
 use Rattle.paging_model.specs.LinearAddress.{index, span}
@@ -18,9 +19,11 @@ use Rattle.present_pages.specs.declared.ranges.There.TheVariants as there
 use Rattle.stale_audit.specs.Facts.{Facts, AreTimely, IsOfHome}
 use Rattle.stale_audit.specs.Findings.{IsFoundIn}
 use Rattle.stale_audit.specs.SteadyTables.{HadOneNxe, IsSteadyPlace, IsWalkedTo}
-use Rattle.stale_audit.specs.Tops.{top_first}
+use Rattle.stale_audit.specs.Tops.{IsFoundBefore, top_first}
 use Rattle.stale_audit.proofs.RangeLaws.{slot-within, span-up}
 use Rattle.stale_audit.proofs.SteadyTableLaws.{led-by-walk, place-leads}
+use Rattle.stale_audit.proofs.TableLaws.{table-none}
+use Rattle.stale_audit.proofs.TopLaws.{room-is, top-none}
 
 -- the slot that serves an address
 index-in : (s base i x : ℕ) → base % (512 * s) ≡ 0 → i < 512 → base + i * s ≤ x → x < base + i * s + s → x / s % 512 ≡ i
@@ -46,7 +49,7 @@ quiet-in facts InUse level first table i bits ready least serves walked steady o
     ∙ place-leads facts ready walked.one_nxe x InUse level table bits found.k found.held least (subst (IsSteadyPlace facts level) place steady) found.leads)
 
 -- of a table; the level is that of the entry that references it
-pub quiet-place : (facts : Facts) (InUse : ℕ → Type 0) (level first table i : ℕ) (bits : Bits) → AreTimely facts → 2 ≤ level → first % span level ≡ 0 → i < 512
+quiet-place : (facts : Facts) (InUse : ℕ → Type 0) (level first table i : ℕ) (bits : Bits) → AreTimely facts → 2 ≤ level → first % span level ≡ 0 → i < 512
     → IsWalkedTo facts first (first + span level) (level - 1) table bits → IsSteadyPlace facts (level - 1) (table + 8 * i)
     → IsFirst (IsFoundIn facts (first + i * span (level - 1)) (first + i * span (level - 1) + span (level - 1)) InUse (level - 1) table bits) None
 quiet-place facts InUse level first table i bits ready least whole slot walked steady =
@@ -59,6 +62,48 @@ quiet-place facts InUse level first table i bits ready least whole slot walked s
       walks = λ x low high aligned. walked.walks x (omega (arith, low)) (omega (arith, high, within)) aligned;
     })
     steady
+
+-- what holds of the numbers before i and of i
+pub up-to-next : (P : ℕ → Type 0) (from i : ℕ) → ((k : ℕ) → from ≤ k → k < i → P k) → P i → (k : ℕ) → from ≤ k → k < i + 1 → P k
+up-to-next P from i before here k low high = by_test (nat_lt k i) refl
+  where
+    by_test : (b : Bool) → nat_lt k i ≡ b → P k
+    by_test true e = before k low (grind (arith, nat_tests, e))
+    by_test false e = let is : i ≡ k = let least : i ≤ k = grind (arith, nat_tests, e) in omega (arith, least, high) in subst P is here
+
+-- nothing is found before the first slot
+pub begun : (facts : Facts) (InUse : ℕ → Type 0) (level first s table : ℕ) (bits : Bits) → IsFirst (IsFoundIn facts first (first + 0 * s) InUse level table bits) None
+begun facts InUse level first s table bits one found = let low = found.page.least in let high = found.page.below in absurd (omega (arith, low, high))
+
+-- where the slots from i on are quiet, up to so many, no more is found up to there than before i
+quiet-run : (facts : Facts) (InUse : ℕ → Type 0) (level first table i : ℕ) (bits : Bits) → AreTimely facts → 2 ≤ level → first % span level ≡ 0
+    → (d : ℕ) → i + d ≤ 512 → (0 < d → IsWalkedTo facts first (first + span level) (level - 1) table bits)
+    → ((k : ℕ) → i ≤ k → k < i + d → IsSteadyPlace facts (level - 1) (table + 8 * k))
+    → IsFirst (IsFoundIn facts first (first + i * span (level - 1)) InUse (level - 1) table bits) None
+    → IsFirst (IsFoundIn facts first (first + (i + d) * span (level - 1)) InUse (level - 1) table bits) None
+quiet-run facts InUse level first table i bits ready least whole zero within walked quiet none =
+    let is : i ≡ i + 0 = omega arith in
+    subst (λ n. IsFirst (IsFoundIn facts first (first + n * span (level - 1)) InUse (level - 1) table bits) None) is none
+quiet-run facts InUse level first table i bits ready least whole (suc d) within walked quiet none =
+    let here : i + d < 512 = omega (arith, within) in
+    let is : i + d + 1 ≡ i + suc d = omega arith in
+    subst (λ n. IsFirst (IsFoundIn facts first (first + n * span (level - 1)) InUse (level - 1) table bits) None) is
+    (table-none facts first (span (level - 1)) (i + d) InUse (level - 1) table bits None here refl
+    (quiet-run facts InUse level first table i bits ready least whole d (omega (arith, within)) (λ some. walked (omega arith))
+    (λ k low high. quiet k low (omega (arith, high))) none)
+    (quiet-place facts InUse level first table (i + d) bits ready least whole here (walked (omega arith)) (quiet (i + d) (omega arith) (omega arith))))
+
+-- up to j
+pub quiet-to : (facts : Facts) (InUse : ℕ → Type 0) (level first table i j : ℕ) (bits : Bits) → AreTimely facts → 2 ≤ level → first % span level ≡ 0
+    → i ≤ j → j ≤ 512 → (i < j → IsWalkedTo facts first (first + span level) (level - 1) table bits)
+    → ((k : ℕ) → i ≤ k → k < j → IsSteadyPlace facts (level - 1) (table + 8 * k))
+    → IsFirst (IsFoundIn facts first (first + i * span (level - 1)) InUse (level - 1) table bits) None
+    → IsFirst (IsFoundIn facts first (first + j * span (level - 1)) InUse (level - 1) table bits) None
+quiet-to facts InUse level first table i j bits ready least whole up within walked quiet none =
+    let is : i + (j - i) ≡ j = omega (arith, up) in
+    subst (λ n. IsFirst (IsFoundIn facts first (first + n * span (level - 1)) InUse (level - 1) table bits) None) is
+    (quiet-run facts InUse level first table i bits ready least whole (j - i) (omega (arith, is, within)) (λ some. walked (omega (arith, some)))
+    (λ k low high. quiet k low (omega (arith, is, high))) none)
 
 -- a table that the present tables reference
 pub walked-below : (facts : Facts) (range : PresentRange) (table : ℕ) (bits : Bits) → HadOneNxe facts → IsOfHome facts range → range.there ≡ there.Table table bits
@@ -98,7 +143,7 @@ top-index level i x least most slot low high = by_test (nat_lt i 256) refl
         index-in (span level) (2 ^ 64 - 512 * span level) i x upper slot (omega (arith, first, low)) (omega (arith, first, high))
 
 -- of the present root
-pub quiet-top : (facts : Facts) (InUse : ℕ → Type 0) (level table i : ℕ) → AreTimely facts → level ≡ top_level facts.settings → 4 ≤ level → level ≤ 5 → i < 512
+quiet-top : (facts : Facts) (InUse : ℕ → Type 0) (level table i : ℕ) → AreTimely facts → level ≡ top_level facts.settings → 4 ≤ level → level ≤ 5 → i < 512
     → HadOneNxe facts → table ≡ facts.home → IsSteadyPlace facts level (table + 8 * i)
     → IsFirst (IsFoundIn facts (top_first level i) (top_first level i + span level) InUse level table root_bits) None
 quiet-top facts InUse level table i ready top least most slot one_nxe home steady =
@@ -110,3 +155,45 @@ quiet-top facts InUse level table i ready top least most slot one_nxe home stead
           ∙ ap (λ n. raw_target_of (walk_from (memory_of facts.seen) facts.settings level x n root_bits)) (sym home));
     })
     steady
+
+top-run : (facts : Facts) (InUse : ℕ → Type 0) (level table i : ℕ) → AreTimely facts → level ≡ top_level facts.settings → 4 ≤ level → level ≤ 5
+    → (d : ℕ) → i + d ≤ 512 → (0 < d → HadOneNxe facts × (table ≡ facts.home))
+    → ((k : ℕ) → i ≤ k → k < i + d → IsSteadyPlace facts level (table + 8 * k))
+    → IsFirst (IsFoundBefore facts InUse level table (top_first level i)) None
+    → IsFirst (IsFoundBefore facts InUse level table (top_first level (i + d))) None
+top-run facts InUse level table i ready top least most zero within present quiet none =
+    let is : i ≡ i + 0 = omega arith in
+    subst (λ n. IsFirst (IsFoundBefore facts InUse level table (top_first level n)) None) is none
+top-run facts InUse level table i ready top least most (suc d) within present quiet none =
+    let here : i + d < 512 = omega (arith, within) in
+    let is : i + d + 1 ≡ i + suc d = omega arith in
+    let now = present (omega arith) in
+    subst (λ n. IsFirst (IsFoundBefore facts InUse level table (top_first level n)) None) is
+    (top-none facts InUse level table (room-is level least most) (i + d) here None refl
+    (top-run facts InUse level table i ready top least most d (omega (arith, within)) (λ some. present (omega arith))
+    (λ k low high. quiet k low (omega (arith, high))) none)
+    (quiet-top facts InUse level table (i + d) ready top least most here now.0 now.1 (quiet (i + d) (omega arith) (omega arith))))
+
+-- where the slots of the present root from i on are quiet, up to j, no more is found up to there than before i
+quiet-top-to : (facts : Facts) (InUse : ℕ → Type 0) (level table i j : ℕ) → AreTimely facts → level ≡ top_level facts.settings → 4 ≤ level → level ≤ 5
+    → i ≤ j → j ≤ 512 → (i < j → HadOneNxe facts × (table ≡ facts.home))
+    → ((k : ℕ) → i ≤ k → k < j → IsSteadyPlace facts level (table + 8 * k))
+    → IsFirst (IsFoundBefore facts InUse level table (top_first level i)) None
+    → IsFirst (IsFoundBefore facts InUse level table (top_first level j)) None
+quiet-top-to facts InUse level table i j ready top least most up within present quiet none =
+    let is : i + (j - i) ≡ j = omega (arith, up) in
+    subst (λ n. IsFirst (IsFoundBefore facts InUse level table (top_first level n)) None) is
+    (top-run facts InUse level table i ready top least most (j - i) (omega (arith, is, within)) (λ some. present (omega (arith, some)))
+    (λ k low high. quiet k low (omega (arith, is, high))) none)
+
+-- the same of the table of the top level at a root
+pub quiet-root-to : (facts : Facts) (InUse : ℕ → Type 0) (level table root i j : ℕ) → AreTimely facts → level ≡ top_level facts.settings → 4 ≤ level → level ≤ 5
+    → table ≡ root → i ≤ j → j ≤ 512 → (i < j → HadOneNxe facts × (root ≡ facts.home))
+    → ((k : ℕ) → i ≤ k → k < j → IsSteadyPlace facts level (table + 8 * k))
+    → IsFirst (IsFoundBefore facts InUse (top_level facts.settings) root (top_first (top_level facts.settings) i)) None
+    → IsFirst (IsFoundBefore facts InUse (top_level facts.settings) root (top_first (top_level facts.settings) j)) None
+quiet-root-to facts InUse level table root i j ready top least most at up within present quiet none =
+    subst (λ n. IsFirst (IsFoundBefore facts InUse n root (top_first n j)) None) top
+    (quiet-top-to facts InUse level root i j ready top least most up within present
+    (subst (λ r. (k : ℕ) → i ≤ k → k < j → IsSteadyPlace facts level (r + 8 * k)) at quiet)
+    (subst (λ n. IsFirst (IsFoundBefore facts InUse n root (top_first n i)) None) (sym top) none))

@@ -1,5 +1,5 @@
 -- Tables that serve addresses as they did at each time since the horizon. Our own words.
-use Rattle.std.specs.Prelude.{◌≡◌, ℕ, zero, suc, ◌+◌, ◌-◌, ◌*◌, ◌%◌, ◌≤◌, ◌<◌, Bool, true, false, if◌then◌else◌, Option, Some, None, option_map}
+use Rattle.std.specs.Prelude.{◌≡◌, ℕ, zero, suc, ◌+◌, ◌-◌, ◌*◌, ◌%◌, ◌≤◌, ◌<◌, Bool, true, false, if◌then◌else◌, Option, Some, None, IfSome, option_map}
 use Rattle.std.specs.BTreeMap.{BTreeMap, get}
 use Rattle.std.specs.Ordering.{nat_cmp}
 use Rattle.paging_model.specs.Entries.{entry_of}
@@ -9,11 +9,13 @@ use Rattle.paging_model.specs.Walking.{walk_from}
 use Rattle.paging_model.specs.declared.entries.Bits.{Bits}
 use Rattle.paging_model.specs.declared.entries.Entry.{Entry}
 use Rattle.paging_model.specs.declared.entries.Entry.TheVariants as entry
+use Rattle.phys_view.specs.Ranges.{SeenEntries}
 use Rattle.phys_view.specs.Seen.{memory_of}
 use Rattle.time_sets.specs.Sets.{has_time}
 use Rattle.version_store.specs.Changes.{old_at}
 use Rattle.stale_audit.specs.Facts.{Facts}
 use Rattle.stale_audit.specs.SlotEntries.{IsSteadySlot}
+use Rattle.stale_audit.specs.declared.timed_tables.TimedTable.{TimedTable}
 
 -- at each time of the processor in the PCID, NXE was what it is now
 abbrev pub HadOneNxe : Facts → Type 0
@@ -41,6 +43,18 @@ IsSteadyBelow facts level slot = (frame : ℕ) (bits : Bits)
 pub record IsSteadyPlace (facts : Facts) (level slot : ℕ) : Type 0 where
   pub same : IsSteadySlot facts slot
   pub below : IsSteadyBelow facts level slot
+
+-- the entries of the table at a frame, all of them
+abbrev pub entries_of_table : Facts → ℕ → SeenEntries
+entries_of_table facts frame = record { seen = facts.seen; at = frame; count = 512 }
+
+-- the entries of a table that have to be looked at to find its quiet slots: all those of a present one, or none where nothing
+-- below its slots has changed
+pub record AreToLookAt (facts : Facts) (level : ℕ) (table : TimedTable) (entries : Option SeenEntries) : Type 0 where
+  pub all : IfSome entries (λ some. some ≡ entries_of_table facts table.frame)
+  pub present : IfSome entries (λ some. table.present ≡ true)
+  pub least : IfSome entries (λ some. 2 ≤ level)
+  pub none : entries ≡ None → table.present ≡ true → (slot : ℕ) → IsSteadyBelow facts level slot
 
 -- NXE was what it is now, and the present walk of each page of a range comes to a table of a level, under these joined bits
 pub record IsWalkedTo (facts : Facts) (first end level table : ℕ) (bits : Bits) : Type 0 where

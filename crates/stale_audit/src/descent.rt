@@ -13,10 +13,11 @@ ghost use Rattle.stale_audit.specs.SteadyTables.{AreKnownSteady, IsWalkedTo};
 ghost use Rattle.time_sets.specs.Sets.{has_time};
 
 use crate::firsts::first_of_two;
+use crate::noisy_slots::{entries_to_look_at, next_noisy};
 use crate::point::Point;
 use crate::ranges::slot_range;
 use crate::slots::slot_findings;
-use crate::steady_tables::{KnownTables, is_quiet, is_steady};
+use crate::steady_tables::{ENTRIES, KnownTables, is_steady};
 use crate::timed_tables::{TimedTable, timed_table};
 use audit_laws::stale_pages::StalePage;
 use paging_model::entries::Bits;
@@ -49,46 +50,18 @@ fn audit_table<L: Ledger>(
         (range.first + span range.level) (IsTimeOf (is_in_use table.now))
         (range.level - 1) table.now.frame table.now.bits)) }
 {
-    for i in 0..512u64 {
-        let found = audit_place(point, table, range, i, known, steps)?;
+    let level = range.level - 1;
+    let entries = entries_to_look_at(point, table, level, steps);
+    let mut i = next_noisy(point, table, level, &entries, 0, known, steps)?;
+    while i < ENTRIES {
+        let slot = slot_range(point, range, i as u64, steps);
+        let found = audit_slot(point, table, slot, known, steps)?;
         if found.is_some() {
             return Ok(found);
         }
+        i = next_noisy(point, table, level, &entries, i + 1, known, steps)?;
     }
     Ok(None)
-}
-
-/// The first finding by slot `i` of a table; `range` is that of the table.
-#[cycle(audit)]
-fn audit_place<L: Ledger>(
-    point: &Point<'_, '_, L>,
-    table: &TimedTable,
-    range: PresentRange,
-    i: u64,
-    known: &mut KnownTables,
-    steps: &mut Steps<L>,
-) -> Result<Option<StalePage>, AllocError>
-    requires ready { AreTimely point.now }
-    requires known { AreKnownSteady point.now known.old }
-    requires timed { IsTimed point.now table.now }
-    requires range { IsPresentRange range }
-    requires least { 2 ≤ range.level }
-    requires most { range.level ≤ 5 }
-    requires home { IsOfHome point.now range }
-    requires walked { table.now.present ≡ true → IsWalkedTo point.now range.first
-        (range.first + span range.level) (range.level - 1) table.now.frame table.now.bits }
-    requires slot { i < 512 }
-    ensures known { AreKnownSteady point.now known.new }
-    ensures first { IfOk result (IsFirst (IsFoundIn point.now
-        (range.first + i * span (range.level - 1))
-        (range.first + i * span (range.level - 1) + span (range.level - 1))
-        (IsTimeOf (is_in_use table.now)) (range.level - 1) table.now.frame table.now.bits)) }
-{
-    if is_quiet(point, table, range.level - 1, i, known, steps)? {
-        return Ok(None);
-    }
-    let slot = slot_range(point, range, i, steps);
-    audit_slot(point, table, slot, known, steps)
 }
 
 /// The first finding by the entries of one slot, and under the tables that they reference; `range` is that of the slot.

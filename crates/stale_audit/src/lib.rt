@@ -17,6 +17,7 @@ mod descent;
 mod firsts;
 mod leaves;
 mod made_entries;
+mod noisy_slots;
 mod point;
 mod ranges;
 mod slot_values;

@@ -28,8 +28,8 @@ pub(crate) enum MadeEntries {
     Past(Vec<PastEntry>),
 }
 
-/// The entries that a slot made at some times with NXE as given, by its values. No set of times is built where the
-/// slot had one value.
+/// The entries that a slot made at some times with NXE as given, by its values. No set of times is built where there
+/// are no times, or where the slot had one value.
 pub(crate) fn made_entries<L: Ledger>(
     point: &Point<'_, '_, L>,
     level: u8,
@@ -51,6 +51,9 @@ pub(crate) fn made_entries<L: Ledger>(
         ↔ IsMadeWith point.now nxe times.now level address above held t) }
     ensures fit { IfOk result (λ made. AllFitLevel level (entries_at made times.now)) }
 {
+    if times.is_empty() {
+        return Ok(MadeEntries::Always(None));
+    }
     let settings = point.settings_with(nxe);
     let global = point.pages_are_global();
     match values {

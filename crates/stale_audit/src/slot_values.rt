@@ -42,7 +42,7 @@ pub(crate) fn slot_values<L: Ledger>(
         (spans_of values point.now.host.horizon point.now.end)) }
 {
     let place = (address % FRAME_LEN / SLOT_LEN) as usize;
-    if !table.changed[place] {
+    if !table.changed.has(place) {
         return Ok(SlotValues::Same(present));
     }
     let spans = point.store.spans(

@@ -1,19 +1,23 @@
 //! Tables that serve addresses as they did at each time since the horizon.
 
-ghost use Rattle.std.specs.Prelude.{◌≡◌, ◌≢◌, ℕ, ◌+◌, ◌*◌, ◌%◌, ◌<◌, ◌≤◌, true, Ok, Some, OnOk, OnErr};
+ghost use Rattle.std.specs.Prelude.{◌≡◌, ◌≢◌, ℕ, ◌+◌, ◌*◌, ◌<◌, ◌≤◌, true, Ok, Some, IfSome, OnOk, OnErr, option_map};
 ghost use Rattle.std.specs.BTreeMap.{get};
 ghost use Rattle.std.specs.Ordering.{nat_cmp};
-ghost use Rattle.paging_model.specs.Entries.{IsFrame};
-ghost use Rattle.stale_audit.specs.SlotEntries.{IsTimed};
-ghost use Rattle.stale_audit.specs.SteadyTables.{AreKnownSteady, IsSteadyBelow, IsSteadyPlace, IsSteadyTable};
+ghost use Rattle.paging_model.specs.Entries.{IsFrame, entry_of};
+ghost use Rattle.paging_model.specs.declared.entries.Bits.{Bits};
+ghost use Rattle.paging_model.specs.declared.entries.Entry.TheVariants.{Table};
+ghost use Rattle.stale_audit.specs.SteadyTables.{AreKnownSteady, IsSteadyBelow, IsSteadyTable};
 
 use crate::point::Point;
-use crate::timed_tables::TimedTable;
 use entry_decode::decode;
 use paging_model::entries::Entry;
+use paging_model::registers::Settings;
 use phys_view::{Ledger, Steps};
 use std::alloc::AllocError;
 use std::collections::BTreeMap;
+
+/// The number of entries of a table.
+pub(crate) const ENTRIES: usize = 512;
 
 /// Which tables are steady, of those that were looked through: by the address of each plus its level. The address is a
 /// multiple of 4,096.
@@ -69,66 +73,31 @@ fn are_steady_below<L: Ledger>(
         → IsSteadyBelow point.now level (table + 8 * i) }
     ensures known { AreKnownSteady point.now known.new }
 {
-    for i in 0..512u64 {
-        if !is_steady_below(point, level, table + 8 * i, known, steps)? {
-            return Ok(false);
+    let entries = point.view.entries(table, ENTRIES, steps);
+    for i in 0..ENTRIES {
+        if let Some(lower) = table_of(level, &point.settings, entries.get(i)) {
+            if !is_steady(point, level - 1, lower, known, steps)? {
+                return Ok(false);
+            }
         }
     }
     Ok(true)
 }
 
-/// The same of the table that the entry at a place references, if it references one.
-#[cycle(search)]
-fn is_steady_below<L: Ledger>(
-    point: &Point<'_, '_, L>,
-    level: u8,
-    slot: u64,
-    known: &mut KnownTables,
-    steps: &mut Steps<L>,
-) -> Result<bool, AllocError>
-    requires least { 2 ≤ level }
-    requires most { level ≤ 5 }
-    requires aligned { slot % 8 ≡ 0 }
-    requires known { AreKnownSteady point.now known.old }
-    ensures steady { result ≡ Ok true → IsSteadyBelow point.now level slot }
-    ensures known { AreKnownSteady point.now known.new }
-{
-    let Some(value) = point.view.entry(slot, steps) else {
-        return Ok(true);
-    };
-    match decode(level, &point.settings, value) {
-        Entry::Table { frame, .. } => is_steady(point, level - 1, frame, known, steps),
-        _ => Ok(true),
-    }
-}
-
-/// Whether slot `i` of a table of a level leads to nothing stale: the present tables lead to the table too, and neither
-/// the slot nor a table below it has changed since the horizon.
-pub(crate) fn is_quiet<L: Ledger>(
-    point: &Point<'_, '_, L>,
-    table: &TimedTable,
-    level: u8,
-    i: u64,
-    known: &mut KnownTables,
-    steps: &mut Steps<L>,
-) -> Result<bool, AllocError>
-    requires timed { IsTimed point.now table.now }
+/// The table that an entry of a level references.
+#[inline]
+pub(crate) fn table_of(level: u8, settings: &Settings, entry: Option<u64>) -> Option<u64>
     requires least { 1 ≤ level }
     requires most { level ≤ 5 }
-    requires slot { i < 512 }
-    requires known { AreKnownSteady point.now known.old }
-    ensures present { result ≡ Ok true → table.now.present ≡ true }
-    ensures quiet { result ≡ Ok true
-        → IsSteadyPlace point.now level (table.now.frame + 8 * i) }
-    ensures known { AreKnownSteady point.now known.new }
+    ensures value { (table : ℕ) (bits : Bits)
+        → option_map (λ value. entry_of level settings.now value) entry ≡ Some (Table table bits)
+        → result ≡ Some table }
+    ensures frame { IfSome result (λ table. IsFrame table) }
 {
-    if !table.present || table.changed[i as usize] {
-        return Ok(false);
+    match decode(level, settings, entry?) {
+        Entry::Table { frame, .. } => Some(frame),
+        _ => None,
     }
-    if level == 1 || point.store.last_time() <= point.host.horizon() {
-        return Ok(true);
-    }
-    is_steady_below(point, level, table.frame + 8 * i, known, steps)
 }
 
 /// Adds what is known of a table.

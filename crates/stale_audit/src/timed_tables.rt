@@ -9,6 +9,7 @@ use paging_model::entries::Bits;
 use phys_view::Ledger;
 use std::alloc::AllocError;
 use time_sets::Times;
+use version_store::ChangedSlots;
 
 /// A table, and when the processor used it in the PCID.
 #[derive(Drop)]
@@ -23,8 +24,8 @@ pub(crate) struct TimedTable {
     pub nxe_clear: Times,
     /// When it was in use with NXE 1.
     pub nxe_set: Times,
-    /// Which of its slots changed after the horizon, one after another.
-    pub changed: [bool; 512],
+    /// Which of its slots changed after the horizon.
+    pub changed: ChangedSlots,
 }
 
 /// A table that is in use at some times.

@@ -15,10 +15,11 @@ ghost use Rattle.time_sets.specs.Sets.{has_time};
 
 use crate::descent::audit_slot;
 use crate::firsts::first_of_two;
+use crate::noisy_slots::{entries_to_look_at, next_noisy};
 use crate::point::Point;
 use crate::ranges::{ROOT_BITS, top_level as top_level_of, top_range};
-use crate::steady_tables::{KnownTables, is_quiet};
-use crate::timed_tables::{TimedTable, timed_table};
+use crate::steady_tables::{ENTRIES, KnownTables};
+use crate::timed_tables::timed_table;
 use audit_laws::stale_pages::StalePage;
 use phys_view::{Ledger, Steps};
 use std::alloc::AllocError;
@@ -67,42 +68,16 @@ fn audit_top<L: Ledger>(
 {
     let present = root == point.home && point.had_one_nxe();
     let table = timed_table(point, root, ROOT_BITS, in_use, present)?;
-    for i in 0..512u64 {
-        let found = audit_top_place(point, &table, i, known, steps)?;
+    let level = top_level_of(&point.settings);
+    let entries = entries_to_look_at(point, &table, level, steps);
+    let mut i = next_noisy(point, &table, level, &entries, 0, known, steps)?;
+    while i < ENTRIES {
+        let slot = top_range(point, i as u64, steps);
+        let found = audit_slot(point, &table, slot, known, steps)?;
         if found.is_some() {
             return Ok(found);
         }
+        i = next_noisy(point, &table, level, &entries, i + 1, known, steps)?;
     }
     Ok(None)
-}
-
-/// The first finding by slot `i` of a top table.
-fn audit_top_place<L: Ledger>(
-    point: &Point<'_, '_, L>,
-    table: &TimedTable,
-    i: u64,
-    known: &mut KnownTables,
-    steps: &mut Steps<L>,
-) -> Result<Option<StalePage>, AllocError>
-    requires ready { AreTimely point.now }
-    requires known { AreKnownSteady point.now known.old }
-    requires timed { IsTimed point.now table.now }
-    requires bits { table.now.bits ≡ root_bits }
-    requires home { IsFrame point.now.home }
-    requires present { table.now.present ≡ true → table.now.frame ≡ point.now.home }
-    requires one_nxe { table.now.present ≡ true → HadOneNxe point.now }
-    requires slot { i < 512 }
-    ensures known { AreKnownSteady point.now known.new }
-    ensures first { IfOk result (IsFirst (IsFoundIn point.now
-        (top_first (top_level point.now.settings) i)
-        (top_first (top_level point.now.settings) i + span (top_level point.now.settings))
-        (IsTimeOf (is_in_use table.now)) (top_level point.now.settings)
-        table.now.frame root_bits)) }
-{
-    let level = top_level_of(&point.settings);
-    if is_quiet(point, table, level, i, known, steps)? {
-        return Ok(None);
-    }
-    let range = top_range(point, i, steps);
-    audit_slot(point, table, range, known, steps)
 }

@@ -1,4 +1,5 @@
 pub mod Changes
+pub mod Groups
 pub mod Records
 pub mod Spanning
 pub mod WrittenChanges

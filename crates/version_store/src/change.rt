@@ -3,7 +3,14 @@
 ghost use Rattle.std.specs.Prelude.{◌≡◌, ◌≤◌, length};
 ghost use Rattle.version_store.specs.Records.{change_from};
 
+use block_pool::BLOCK_LEN;
 use byteorder::{ByteOrder, LittleEndian};
+
+/// The length of a slot in bytes.
+pub(crate) const SLOT_LEN: usize = 8;
+
+/// How many slots a frame has.
+pub(crate) const SLOTS_PER_FRAME: usize = BLOCK_LEN / SLOT_LEN;
 
 /// The length of a change's record in bytes.
 pub(crate) const RECORD_LEN: usize = 16;

@@ -4,19 +4,14 @@ ghost use Rattle.std.specs.Prelude.{◌≡◌, ℕ, ◌+◌, ◌*◌, ◌/◌, �
 ghost use Rattle.version_store.specs.Changes.{IsSlotOffset, blocks_for, is_changed, is_changed_after, last_time as last_time_of, old_in};
 ghost use Rattle.version_store.specs.Records.{IsFilledTo, change_at, change_from};
 
-use crate::change::{Change, RECORD_LEN};
+use crate::change::{Change, RECORD_LEN, SLOT_LEN, SLOTS_PER_FRAME};
+use crate::changed_slots::ChangedSlots;
 use block_pool::{BLOCK_LEN, Block, Pool};
 use std::alloc::{AllocError, Global};
 use std::marker::Model;
 
 /// How many changes a block has room for.
 const CHANGES_PER_BLOCK: usize = BLOCK_LEN / RECORD_LEN;
-
-/// The length of a slot in bytes.
-pub(crate) const SLOT_LEN: usize = 8;
-
-/// How many slots a frame has.
-pub(crate) const SLOTS_PER_FRAME: usize = BLOCK_LEN / SLOT_LEN;
 
 /// The changes of a frame, in the order in which they were noted. All its blocks but the last are full.
 #[derive(Drop)]
@@ -126,18 +121,18 @@ impl FrameChanges {
         changed
     }
 
-    /// Which slots of the frame have a change after a time, one after another.
-    pub(crate) fn changed_after(&self, time: u32) -> [bool; SLOTS_PER_FRAME]
+    /// Which slots of the frame have a change after a time.
+    pub(crate) fn changed_after(&self, time: u32) -> ChangedSlots
         ensures value { (i : ℕ) → i < 512
             → slice_index_or result i false ≡ is_changed_after self.now (8 * i) time }
         ensures len { length result ≡ 512 }
     {
         let len = self.len();
-        let mut slots = [false; SLOTS_PER_FRAME];
+        let mut slots = ChangedSlots::none();
         for number in self.count_until(time)..len {
             let change = self.get(number);
             if change.time > time {
-                slots[usize::from(change.offset) / SLOT_LEN] = true;
+                slots.add(usize::from(change.offset) / SLOT_LEN);
             }
         }
         slots

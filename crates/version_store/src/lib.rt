@@ -5,6 +5,7 @@
 #![tactic(auto)]
 
 mod change;
+mod changed_slots;
 mod frame_changes;
 pub mod laws;
 mod slots;
@@ -12,6 +13,7 @@ mod spans;
 mod store;
 
 pub use change::Change;
+pub use changed_slots::ChangedSlots;
 pub use slots::Slots;
 pub use spans::Spans;
 pub use store::Store;

@@ -3,7 +3,8 @@
 ghost use Rattle.std.specs.Prelude.{◌≡◌, ◌%◌, IfOk};
 ghost use Rattle.version_store.specs.Changes.{changed_in};
 
-use crate::frame_changes::{FrameChanges, SLOT_LEN, SLOTS_PER_FRAME};
+use crate::change::{SLOT_LEN, SLOTS_PER_FRAME};
+use crate::frame_changes::FrameChanges;
 use std::alloc::{AllocError, Global};
 use std::marker::Model;
 

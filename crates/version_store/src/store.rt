@@ -7,7 +7,8 @@ ghost use Rattle.version_store.specs.Changes.{IsSlotOffset, changed_slots, chang
 ghost use Rattle.version_store.specs.Spanning.{AreSpans};
 
 use crate::change::Change;
-use crate::frame_changes::{FrameChanges, SLOTS_PER_FRAME};
+use crate::changed_slots::ChangedSlots;
+use crate::frame_changes::FrameChanges;
 use crate::slots::{Slots, slots_in};
 use crate::spans::{Spans, spans_in};
 use block_pool::Pool;
@@ -185,15 +186,15 @@ impl Store {
         }
     }
 
-    /// Which slots of the frame at an address have a kept change after a time, one after another. It takes no memory.
-    pub fn changed_after(&self, frame: u64, time: u32) -> [bool; SLOTS_PER_FRAME]
+    /// Which slots of the frame at an address have a kept change after a time. It takes no memory.
+    pub fn changed_after(&self, frame: u64, time: u32) -> ChangedSlots
         ensures value { (i : ℕ) → i < 512 → slice_index_or result i false
             ≡ is_changed_after (changes_of self.now (frame / 4096)) (8 * i) time }
         ensures len { length result ≡ 512 }
     {
         match self.frames.get(&(frame / FRAME_LEN)) {
             Some(changes) => changes.changed_after(time),
-            None => [false; SLOTS_PER_FRAME],
+            None => ChangedSlots::none(),
         }
     }
 

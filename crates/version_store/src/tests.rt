@@ -195,16 +195,16 @@ fn changes_of_slots_count_after_their_time_alone(rt: HostRuntime) -> Result<(), 
     store.note(&mut pool, 0x1ff8, 9, 0)?;
     store.note(&mut pool, 0x2008, 9, 0)?;
     let changed = store.changed_after(0x1000, 6);
-    assert_eq!(rt; (changed[0], changed[1], changed[511]), (true, false, true));
+    assert_eq!(rt;
+        (changed.has(0), changed.has(1), changed.has(511)),
+        (true, false, true)
+    );
+    assert_eq!(rt;
+        (changed.next(0), changed.next(1), changed.next(512)),
+        (0, 511, 512)
+    );
     let changed = store.changed_after(0x1000, 7);
-    assert_eq!(rt;
-        (changed[0], changed[1], changed[511]),
-        (false, false, true)
-    );
-    let changed = store.changed_after(0x3000, 0);
-    assert_eq!(rt;
-        (changed[0], changed[1], changed[511]),
-        (false, false, false)
-    );
+    assert_eq!(rt; (changed.has(0), changed.next(0)), (false, 511));
+    assert_eq!(rt; store.changed_after(0x3000, 0).next(0), 512);
     Ok(())
 }

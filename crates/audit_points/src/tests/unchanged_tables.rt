@@ -128,9 +128,9 @@ fn a_table_is_cut_beside_one_that_changed(rt: HostRuntime) -> Result<(), Fail> {
         (findings.as_slice()[0].page, findings.as_slice()[0].frame),
         (0x3f_f000, 0xb_0000)
     );
-    // Two reads of each slot on the way, one more of those above the last and of the one beside them, and three to find
-    // which table changed.
-    assert_eq!(rt; steps, 2 * 4 + 4 + 3);
+    // The slots of three tables on the way, once more those of two of them to find which table below changed, and two
+    // reads of each slot on the way.
+    assert_eq!(rt; steps, 5 * 512 + 2 * 4);
     Ok(())
 }
 
@@ -150,8 +150,7 @@ fn a_table_is_looked_through_once(rt: HostRuntime) -> Result<(), Fail> {
     };
     let (findings, steps) = point_and_steps(&rt, rt.alloc(), &bytes, &[change])?;
     assert!(rt; findings.as_slice().is_empty());
-    // Each slot of three tables is read, and of four slots on the way two more reads; two levels of the other table are
-    // looked through, and two more slots on the way.
-    assert_eq!(rt; steps, 3 * 512 + 2 * 4 + 2 * 512 + 2);
+    // As many on the way, and the slots of the other table at two levels.
+    assert_eq!(rt; steps, 5 * 512 + 2 * 4 + 2 * 512);
     Ok(())
 }

@@ -8,7 +8,7 @@ use Rattle.time_sets.specs.Sets.{has_time}
 use Rattle.stale_audit.specs.Findings.{IsFoundIn, IsFoundUnder, IsLeafFoundIn}
 use Rattle.stale_audit.specs.SlotEntries.{AreTablesBelow, is_in_use}
 use Rattle.stale_audit.specs.declared.tables.HeldTable.{HeldTable}
-use Rattle.stale_audit.proofs.QuietLaws.{quiet-place}
+use Rattle.stale_audit.proofs.QuietLaws.{begun, quiet-to}
 use Rattle.stale_audit.proofs.RangeLaws.{span-up}
 use Rattle.stale_audit.proofs.ReferenceLaws.{table-at}
 use Rattle.stale_audit.proofs.TableLaws.{first-all, if_ok-more, slot-first, table-none, table-some, under-begun, under-more}
@@ -62,19 +62,33 @@ audit_table-returns-then-is_some-clause-first g t c =
     (span-up c.args.range.level c.requires.least)
     (table-some c.args.point.now c.args.range.first (span (c.args.range.level - 1)) c.loop-i.i (IsTimeOf (is_in_use c.args.table.now)) (c.args.range.level - 1) c.args.table.now.frame c.args.table.now.bits
     c.in_ok-found.found c.loop-i-test.true (sym c.is_some.ensures ∙ c.if-is_some.true) c.loop-i.invariant.none
-    c.in_ok-found.ensures.first)
+    (rw (c.slot_range-slot.ensures.level, c.slot_range-slot.ensures.first) at c.in_ok-found.ensures.first))
+
+pub audit_table-loop-i-init : goal.audit_table-loop-i-init
+audit_table-loop-i-init g t c = record {
+  within = c.in_ok-i.ensures.most;
+  none = quiet-to c.args.point.now (IsTimeOf (is_in_use c.args.table.now)) c.args.range.level c.args.range.first c.args.table.now.frame 0 c.in_ok-i.i c.args.table.now.bits
+      c.requires.ready c.requires.least c.requires.range.whole (omega arith) c.in_ok-i.ensures.most
+      (λ some. c.requires.walked (c.in_ok-i.ensures.present some)) c.in_ok-i.ensures.quiet
+      (begun c.args.point.now (IsTimeOf (is_in_use c.args.table.now)) (c.args.range.level - 1) c.args.range.first (span (c.args.range.level - 1)) c.args.table.now.frame c.args.table.now.bits);
+  known = c.in_ok-i.ensures.known;
+}
 
 pub audit_table-loop-i-preserved : goal.audit_table-loop-i-preserved
 audit_table-loop-i-preserved g t c = record {
-  none = table-none c.args.point.now c.args.range.first (span (c.args.range.level - 1)) c.loop-i.i (IsTimeOf (is_in_use c.args.table.now)) (c.args.range.level - 1) c.args.table.now.frame c.args.table.now.bits
+  within = c.in_ok-i-2.ensures.most;
+  none = quiet-to c.args.point.now (IsTimeOf (is_in_use c.args.table.now)) c.args.range.level c.args.range.first c.args.table.now.frame (c.loop-i.i + 1) c.in_ok-i-2.i c.args.table.now.bits
+      c.requires.ready c.requires.least c.requires.range.whole c.in_ok-i-2.ensures.least c.in_ok-i-2.ensures.most
+      (λ some. c.requires.walked (c.in_ok-i-2.ensures.present some)) c.in_ok-i-2.ensures.quiet
+      (table-none c.args.point.now c.args.range.first (span (c.args.range.level - 1)) c.loop-i.i (IsTimeOf (is_in_use c.args.table.now)) (c.args.range.level - 1) c.args.table.now.frame c.args.table.now.bits
       c.in_ok-found.found c.loop-i-test.true (sym c.is_some.ensures ∙ c.if-is_some.false) c.loop-i.invariant.none
-      c.in_ok-found.ensures.first;
-  known = c.audit_place.ensures.known;
+      (rw (c.slot_range-slot.ensures.level, c.slot_range-slot.ensures.first) at c.in_ok-found.ensures.first));
+  known = c.in_ok-i-2.ensures.known;
 }
 
 pub audit_table-returns-clause-first : goal.audit_table-returns-clause-first
 audit_table-returns-clause-first g t c =
-    let i : c.loop-i.i ≡ 512 = omega arith in
+    let most = c.loop-i.invariant.within in let i : c.loop-i.i ≡ 512 = omega arith in
     subst (λ n. IsFirst (IsFoundIn c.args.point.now c.args.range.first (c.args.range.first + n) (IsTimeOf (is_in_use c.args.table.now)) (c.args.range.level - 1) c.args.table.now.frame c.args.table.now.bits) None)
     (span-up c.args.range.level c.requires.least)
     (subst (λ n. IsFirst (IsFoundIn c.args.point.now c.args.range.first (c.args.range.first + n * span (c.args.range.level - 1)) (IsTimeOf (is_in_use c.args.table.now)) (c.args.range.level - 1) c.args.table.now.frame c.args.table.now.bits) None)
@@ -82,12 +96,3 @@ audit_table-returns-clause-first g t c =
 
 pub audit_below-returns-then-branch-clause-first : goal.audit_below-returns-then-branch-clause-first
 audit_below-returns-then-branch-clause-first g t c one = c.in_ok-is_settled.ensures.settled (ap Ok c.if-branch.true) c.args.in_use.now one
-
-pub audit_place-returns-then-branch-clause-first : goal.audit_place-returns-then-branch-clause-first
-audit_place-returns-then-branch-clause-first g t c =
-    quiet-place c.args.point.now (IsTimeOf (is_in_use c.args.table.now)) c.args.range.level c.args.range.first c.args.table.now.frame c.args.i c.args.table.now.bits
-    c.requires.ready c.requires.least c.requires.range.whole c.requires.slot
-    (c.requires.walked (c.in_ok-is_quiet.ensures.present (ap Ok c.if-branch.true))) (c.in_ok-is_quiet.ensures.quiet (ap Ok c.if-branch.true))
-
-pub audit_place-returns-clause-first : goal.audit_place-returns-clause-first
-audit_place-returns-clause-first g t c = rw (c.slot_range-slot.ensures.level, c.slot_range-slot.ensures.first) at c.audit_slot.ensures.first

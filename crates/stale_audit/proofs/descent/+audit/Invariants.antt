@@ -1,4 +1,4 @@
-use Rattle.std.proofs.Common.{◌+◌, ◌-◌, ◌*◌, ◌⊎◌, None, take}
+use Rattle.std.proofs.Common.{◌+◌, ◌-◌, ◌*◌, ◌≤◌, ◌⊎◌, None, take}
 use Rattle.paging_model.specs.LinearAddress.{span}
 use Rattle.audit_laws.specs.Firsts.{IsFirst}
 use Rattle.audit_laws.specs.Leads.{IsTimeOf}
@@ -9,20 +9,21 @@ use Rattle.stale_audit.specs.SteadyTables.{AreKnownSteady}
 use Rattle.stale_audit.proofs.descent.+audit.Given as goal
 
 abbrev pub decreases-audit_below : goal.decreases-audit_below
-decreases-audit_below g l = 4 * l.range.level
+decreases-audit_below g l = 3 * l.range.level
 
 abbrev pub decreases-audit_slot : goal.decreases-audit_slot
-decreases-audit_slot g l = 4 * l.range.level + 1
-
-abbrev pub decreases-audit_place : goal.decreases-audit_place
-decreases-audit_place g l = 4 * (l.range.level - 1) + 2
+decreases-audit_slot g l = 3 * l.range.level + 1
 
 abbrev pub decreases-audit_table : goal.decreases-audit_table
-decreases-audit_table g l = 4 * (l.range.level - 1) + 3
+decreases-audit_table g l = 3 * (l.range.level - 1) + 2
+
+abbrev pub decreases-audit_table-loop-i : goal.decreases-audit_table-loop-i
+decreases-audit_table-loop-i g l = 512 - l.i
 
 -- nothing is found by the slots before i
 abbrev pub invariant-audit_table-loop-i : goal.invariant-audit_table-loop-i
 invariant-audit_table-loop-i g l = record {
+  within : l.i ≤ 512;
   none : IsFirst (IsFoundIn l.point l.range.first (l.range.first + l.i * span (l.range.level - 1)) (IsTimeOf (is_in_use l.table)) (l.range.level - 1) l.table.frame l.table.bits) None;
   known : AreKnownSteady l.point l.known;
 }

@@ -1,5 +1,4 @@
-use Rattle.std.proofs.Common.{◌≡◌, ◌*◌, ◌/◌, List, [], Option, None, false, sym, ap, ◌∙◌}
-use Rattle.std.proofs.lemmas.List.{get_or-replicate}
+use Rattle.std.proofs.Common.{◌≡◌, ◌*◌, ◌/◌, List, [], Option, None, sym, ap, ◌∙◌}
 use Rattle.std.specs.BTreeMap.{is_at}
 use Rattle.std.specs.Map.{lookup}
 use Rattle.std.specs.Ordering.{nat_cmp}
@@ -12,5 +11,5 @@ pub returns-in-None-clause-value : goal.returns-in-None-clause-value
 returns-in-None-clause-value c = λ i below.
     let none : lookup (is_at (nat_cmp (c.args.frame / 4096))) c.args.self.now ≡ None =
     sym (ap (lookup (is_at (nat_cmp (c.args.frame / 4096)))) c.self.view_is) ∙ (sym c.get.ensures.value ∙ ap option_copied c.in-None.is) in
-    get_or-replicate 512 i false false below
+    c.none.ensures.value i below
     ∙ sym (ap (λ (found : Option (List Change)). is_changed_after (unwrap_or found []) (8 * i) c.args.time) none)
