@@ -10,7 +10,8 @@
 # DIR gets
 #
 #     guest.core      the core
-#     guest.monitor   what the monitor said: `info registers -a`, and QEMU's own list of the pages of processor 0
+#     guest.monitor   what the monitor said: `info registers -a`, and QEMU's own list of the pages of each processor,
+#                     by `info tlb`
 #     guest.console   what the guest said: the addresses of its pages, and PKRU where it has protection keys
 #     guest.log       `machine` and `cpu` lines by tools/qemu-cpus, and questions about the guest's pages
 #
@@ -100,6 +101,8 @@ cat >&3 <<COMMANDS
 stop
 info registers -a
 dump-guest-memory $work/guest.core
+info tlb
+cpu 1
 info tlb
 quit
 COMMANDS

@@ -1,5 +1,6 @@
 #!/usr/bin/env python3
 """Tests of qemu-cpus. The texts are excerpts of what QEMU 7.2.22 wrote: bench/qemu_core.sh takes such a text."""
+import os
 import pathlib
 import subprocess
 import tempfile
@@ -92,6 +93,11 @@ class Lines(unittest.TestCase):
         self.assertTrue(self.written(text).endswith(" 0x55555554 0x0\n"))
         self.assertTrue(self.written(text, "--pkru", "0=0").endswith(" 0x0 0x0\n"))
 
+    def test_a_processor_is_left_out(self):
+        text = FIRST + SECOND.replace("CPU#1", "CPU#4") + FIRMWARE.replace("CPU#0", "CPU#2")
+        lines = self.written(text, "--skip", "0", "--skip", "2").splitlines()
+        self.assertEqual(lines, ["machine 52 1", LINES.splitlines()[2].replace("cpu 1", "cpu 4")])
+
     def test_bits_above_32(self):
         text = FIRST.replace("CR3=000000000552c000", "CR3=400000ff0552c00f").replace("RFL=00000206", "RFL=00040206")
         self.assertIn("cpu 0 0x80050033 0x400000ff0552c00f 0x750eb0 0xd01 0x40206 ", self.written(text))
@@ -147,6 +153,19 @@ class Refusals(unittest.TestCase):
 
     def test_an_option_for_no_processor(self):
         self.refused(FIRST, "--pkrs names processor 2, which isn't shown", "--pkrs", "2=0")
+        self.refused(FIRST, "--skip names processor 1, which isn't shown", "--skip", "1")
+        self.refused(BOTH, "--pkru names processor 1, which --skip leaves out", "--skip", "1", "--pkru", "1=0")
+        self.refused(FIRST, "--skip leaves no processor", "--skip", "0")
+
+    def test_output_that_takes_nothing(self):
+        with open("/dev/full", "wb") as full:
+            done = subprocess.run([TOOL], input=BOTH.encode(), stdout=full, stderr=subprocess.PIPE, check=False)
+        self.assertEqual(done.returncode, 1)
+        self.assertTrue(done.stderr.endswith(b"qemu-cpus: standard output: No space left on device\n"))
+
+    def test_input_that_is_closed(self):
+        done = subprocess.run([TOOL], preexec_fn=lambda: os.close(0), capture_output=True, check=False)
+        self.assertEqual((done.returncode, done.stderr), (1, b"qemu-cpus: standard input is closed\n"))
 
     def test_no_file(self):
         self.refused("", "/nowhere/at/all: No such file or directory", "/nowhere/at/all")
