@@ -46,6 +46,7 @@ from slow_session import Registers, Session
 
 CRATE = Path(__file__).resolve().parent.parent / "crates" / "rights"
 PAGE = CRATE.parents[1] / "docs" / "SHOOTDOWN.md"
+RECORDED = CRATE.parents[1] / "examples" / "shootdown"
 BUILT = [CRATE / "out" / "rights", CRATE / "out" / "rights.by-rattle"]
 
 USAGE = b"usage: run CORE LOG | check CORE | gen SEED COUNT\n"
@@ -308,6 +309,11 @@ class Statuses(Program):
         for log, text in cases:
             self.write("log", log)
             self.ends(["run", "example.core", "log"], 1, text)
+
+    def test_1_and_0_the_recorded_guests(self):
+        found = b"point no 1\ncpu 1 pcid 0 page 0x400000 frame 0x109000 ---rwxrw\n"
+        for name, status, text in (("forgets", 1, found), ("tells", 0, b"point yes\n")):
+            self.ends(["run", RECORDED / f"{name}.core", RECORDED / f"{name}.log"], status, text)
 
     def test_2_words_of_no_form(self):
         self.write_example()
