@@ -1,14 +1,31 @@
-/* Answers the `ask` lines of a log that writes to memory too: writes CORE LOG
+/* Answers the `ask` lines of a log that writes to memory too: writes CORE LOG [keep]
 
    Knows `write` lines beside those that asks.c knows, and stops at every other line, and at a write that is refused. A
-   page gets a copy at the first write to it. */
+   page gets a copy at the first write to it. With `keep` it also keeps what each slot held before each write. */
 #include "answers.h"
 
-enum { PAGE = 4096, PAGE_LIMIT = 262144, FIRST_ROOM = 1024 };
+enum { PAGE = 4096, PAGE_LIMIT = 262144, FIRST_ROOM = 1024, SLOT = 8 };
+
+/* What a slot held before a write. */
+struct change {
+    uint16_t offset;
+    uint32_t time;
+    uint64_t old;
+};
+
+enum { CHANGES = (PAGE - sizeof(void *)) / sizeof(struct change) };
+
+/* The changes of a page, as many as fit into 4,096 bytes, and those before. */
+struct changes {
+    struct changes *before;
+    struct change changes[CHANGES];
+};
 
 /* The bytes of a page that was written to. One that the core lacks is 0. */
 struct copy {
     bool whole; /* all its bytes are known */
+    size_t changed; /* how many changes are kept */
+    struct changes *last;
     unsigned char bytes[PAGE];
 };
 
@@ -91,6 +108,8 @@ static struct copy *new_copy(const struct memory *memory, uint64_t address)
     struct copy *copy = malloc(sizeof *copy);
     if (copy == NULL)
         stop(NO_ROOM, "writes: no room for a page");
+    copy->changed = 0;
+    copy->last = NULL;
     copy->whole = all_known(memory, address, PAGE);
     if (!copy->whole)
         memset(copy->bytes, 0, PAGE);
@@ -122,43 +141,70 @@ static inline bool seen_entry(const struct view *view, uint64_t address, uint64_
     return copy->whole || all_known(&view->memory, address, 8);
 }
 
-static void write_bytes(struct view *view, uint64_t address, const unsigned char *bytes, size_t size)
+static void keep_slot(struct copy *copy, uint64_t offset, uint32_t time)
+{
+    if (copy->changed % CHANGES == 0) {
+        struct changes *changes = malloc(sizeof *changes);
+        if (changes == NULL)
+            stop(NO_ROOM, "writes: no room for changes");
+        changes->before = copy->last;
+        copy->last = changes;
+    }
+    struct change change = {(uint16_t)offset, time, number_at(copy->bytes + offset, SLOT)};
+    copy->last->changes[copy->changed++ % CHANGES] = change;
+}
+
+/* Of slots that are wholly known. */
+static void keep_slots(const struct view *view, struct copy *copy, uint64_t address, size_t size, uint32_t time)
+{
+    for (uint64_t slot = address - address % SLOT; slot < address + size; slot += SLOT)
+        if (copy->whole || all_known(&view->memory, slot, SLOT))
+            keep_slot(copy, slot % PAGE, time);
+}
+
+/* At a time other than 0 it keeps what the slots held. */
+static void write_bytes(struct view *view, uint64_t address, const unsigned char *bytes, size_t size, uint32_t time)
 {
     uint64_t offset = address % PAGE;
     if (!all_known(&view->memory, address, size))
         stop(BAD_LOG, "writes: an unknown byte");
     if (offset + size > PAGE)
         stop(BAD_LOG, "writes: two pages");
-    memcpy(copy_of(view, address / PAGE)->bytes + offset, bytes, size);
+    struct copy *copy = copy_of(view, address / PAGE);
+    if (time > 0)
+        keep_slots(view, copy, address, size, time);
+    memcpy(copy->bytes + offset, bytes, size);
 }
 
 /* ---- Lines ---- */
 
 /* What a `write` line writes. */
-struct change {
+struct written {
     uint64_t address;
     size_t size;
     unsigned char bytes[PAGE];
 };
 
 /* A `write` line behind its first word. */
-static bool take_write(const unsigned char **at, struct change *change)
+static bool take_write(const unsigned char **at, struct written *written)
 {
-    if (!take_number(at, &change->address) || !take_byte(at, ' '))
+    if (!take_number(at, &written->address) || !take_byte(at, ' '))
         return false;
     unsigned high, low;
-    for (change->size = 0; (high = DIGIT[**at]) != 0; *at += 2) {
-        if ((low = DIGIT[(*at)[1]]) == 0 || change->size == PAGE)
+    for (written->size = 0; (high = DIGIT[**at]) != 0; *at += 2) {
+        if ((low = DIGIT[(*at)[1]]) == 0 || written->size == PAGE)
             return false;
-        change->bytes[change->size++] = (unsigned char)((high - 1) << 4 | (low - 1));
+        written->bytes[written->size++] = (unsigned char)((high - 1) << 4 | (low - 1));
     }
-    return change->size > 0 && take_byte(at, '\n');
+    return written->size > 0 && take_byte(at, '\n');
 }
 
 int main(int argc, char **argv)
 {
-    if (argc != 3)
-        stop(BAD_USE, "usage: writes CORE LOG");
+    if (argc != 3 && !(argc == 4 && strcmp(argv[3], "keep") == 0))
+        stop(BAD_USE, "usage: writes CORE LOG [keep]");
+    bool keeps = argc == 4;
+    uint32_t now = 0;
     struct file core = read_file(argv[1]), log = read_file(argv[2]);
     struct view view = {.memory = memory_of(core)};
     take_room(&view, FIRST_ROOM);
@@ -168,16 +214,17 @@ int main(int argc, char **argv)
     const unsigned char *at = log.bytes, *end = at + log.size;
     while (at < end) {
         struct question question;
-        struct change change;
+        struct written written;
         if (take_word(&at, "ask ")) {
             if (!take_ask(&at, &machine, &question))
                 stop(BAD_LOG, "writes: a bad ask line");
             put_answer(&output, answer(&view, question.processor, question.access, question.pointer));
             begun = true;
         } else if (take_word(&at, "write ")) {
-            if (!take_write(&at, &change))
+            if (!take_write(&at, &written))
                 stop(BAD_LOG, "writes: a bad write line");
-            write_bytes(&view, change.address, change.bytes, change.size);
+            now++;
+            write_bytes(&view, written.address, written.bytes, written.size, keeps ? now : 0);
             begun = true;
         } else if (!take_passed_over(&at, end) && (begun || !take_state_line(&at, &machine)))
             stop(BAD_LOG, "writes: a bad line");

@@ -12,9 +12,10 @@
 #
 # Then, WRITES `write` lines of eight bytes, a million where it isn't said, to one table, to 1,000 and to 100,000, and
 # 10,000 `ask` lines that go by the entries that were written. The core is of 64 MBytes, and for 100,000 tables of 512.
-# Against the program stands writes.c, which reads the same lines, applies the same rules and keeps the same pages.
-# "lines" is what is left of the time without that for the state lines alone, which is that for the core. The ratios are
-# to the time of writes.c, and to its time for the lines.
+# Against the program stands writes.c, which reads the same lines, applies the same rules and keeps the same pages; and
+# writes.c with `keep`, which also keeps what each slot held before each write, as the program does. "lines" is what is
+# left of the time without that for the state lines alone, which is that for the core. The ratios are to the time of
+# writes.c, to its time for the lines, and to both with `keep`.
 #
 # Compares what the program and the plain ones answer. Prints the medians of five runs, and the nanoseconds for each
 # `ask` line of the first part, and for each `write` line of the second.
@@ -46,7 +47,7 @@ same() {
 }
 
 timed() { printf "'%s' run '%s' '%s' >'%s'" "$program" "$core" "$1" "$work/answers"; }
-timed_plain() { printf "'%s' '%s' '%s' >'%s'" "$work/writes" "$core" "$1" "$work/answers"; }
+timed_plain() { printf "'%s' '%s' '%s' $2 >'%s'" "$work/writes" "$core" "$1" "$work/answers"; }
 
 "$work/make_tables" "$core" "$state" 131072 1 ascending
 "$work/make_writes" "$core" "$state" same 0 "$lines" >"$work/walks"
@@ -70,10 +71,10 @@ echo "$lines walks, with no written page and with 100,000:"
     "none, state" "$(timed "$state")" \
     "100,000" "$(timed "$work/written")" \
     "100,000, writes" "$(timed "$work/alone")" \
-    "writes.c, none" "$(timed_plain "$work/walks")" \
-    "writes.c, state" "$(timed_plain "$state")" \
-    "writes.c, 100,000" "$(timed_plain "$work/written")" \
-    "writes.c, writes" "$(timed_plain "$work/alone")"
+    "writes.c, none" "$(timed_plain "$work/walks" "")" \
+    "writes.c, state" "$(timed_plain "$state" "")" \
+    "writes.c, 100,000" "$(timed_plain "$work/written" "")" \
+    "writes.c, writes" "$(timed_plain "$work/alone" "")"
 rm "$work/walks" "$work/written" "$work/alone"
 
 for pages in 1 1000 100000; do
@@ -82,11 +83,13 @@ for pages in 1 1000 100000; do
     same writes "$work/log"
     echo
     echo "$writes writes, to $pages of the tables:"
-    "$bench/ratios.py" --to "writes.c" --to "its lines" --each "$writes" \
+    "$bench/ratios.py" --to "writes.c" --to "its lines" --to "keep" --to "keep, lines" --each "$writes" \
         --less "its lines" "writes.c" "writes.c, state" \
+        --less "keep, lines" "keep" "writes.c, state" \
         --less "rights run, lines" "rights run" "rights run, state" \
-        "writes.c" "$(timed_plain "$work/log")" \
+        "writes.c" "$(timed_plain "$work/log" "")" \
+        "keep" "$(timed_plain "$work/log" keep)" \
         "rights run" "$(timed "$work/log")" \
-        "writes.c, state" "$(timed_plain "$state")" \
+        "writes.c, state" "$(timed_plain "$state" "")" \
         "rights run, state" "$(timed "$state")"
 done
