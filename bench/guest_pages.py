@@ -3,14 +3,15 @@
 
     guest_pages.py MONITOR LOG ANSWERS
 
-MONITOR is a text of QEMU's monitor with the answer to `info tlb` for each processor, as bench/qemu_core.sh takes it.
-LOG has the processors' `cpu` lines, and a `list` line for each. ANSWERS is what a run wrote for these.
+MONITOR is a text of QEMU's monitor with the answer to `info tlb` for each processor, as bench/qemu_core.sh takes it, or
+tools/qemu-record with --pages. LOG has the `machine` line, the processors' `cpu` lines, and a `list` line for each.
+ANSWERS is what a run wrote for these.
 
 A line of `info tlb` has a page's first address, its frame, and flags of its last entry: X is XD, P a large page, U is
 U/S and W is R/W. From these, and from CR0, CR4 and AC of the processor, follow the letters that a listing has to have.
 So it is compared as far as the entries of upper levels let all pass, and no protection key denies anything. The first
 is so in Linux without page-table isolation, the second where LOG has a PKRU of 0. How large a large page is isn't
-shown: the largest is taken that the alignment and the next page leave room for.
+shown: the largest is taken that the machine has, and that the alignment and the next page leave room for.
 
 Prints for each processor how many pages agree, and the first that don't; status 1 where there are such ones.
 """
@@ -69,11 +70,12 @@ def letters(flags, registers):
     return "".join(letter if is_granted else "-" for letter, is_granted in zip("rwxrwxrw", granted))
 
 
-def qemu_pages(listed, registers):
+def qemu_pages(listed, registers, has_gigabytes):
     """The first address, the size, the frame and the letters of each page."""
+    known = [size for size in SIZES if has_gigabytes or size < 1 << 30]
     nexts = [first for first, _, _ in listed[1:]] + [1 << 64]
     for (first, frame, flags), following in zip(listed, nexts):
-        sizes = SIZES if "P" in flags else (PAGE_SIZE,)
+        sizes = known if "P" in flags else (PAGE_SIZE,)
         fitting = [size for size in sizes if (first | frame) % size == 0 and first + size <= following]
         if not fitting:
             raise Difference(f"`info tlb` has the page at {first:#x} out of its place")
@@ -134,8 +136,9 @@ def main():
     listed, tlbs = listings(answers), monitor_pages(monitor)
     if not tlbs or len(listed) != len(asked) or not set(asked) == set(tlbs) == set(registers):
         raise Difference("the processors of MONITOR, LOG and ANSWERS aren't the same")
+    has_gigabytes = not re.search(r"^machine [0-9]+ 0$", log, re.MULTILINE)
     agree = [
-        compare(number, list(qemu_pages(tlbs[number], registers[number])), areas)
+        compare(number, list(qemu_pages(tlbs[number], registers[number], has_gigabytes)), areas)
         for number, areas in zip(asked, listed)
     ]
     sys.exit(0 if all(agree) else 1)

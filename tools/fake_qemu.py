@@ -223,10 +223,22 @@ RETURNS = [
 ]
 
 
-def serve_qmp(listener, mode):
-    connection, _ = listener.accept()
-    lines = connection.makefile("rwb")
+def monitor_text(command, processor):
+    """What the monitor says of a processor, with the ends of lines that QEMU gives it."""
+    registers = f"\r\nCPU#{processor}\r\nRAX={processor:016x}\r\n"
+    page = f"{PAGE + FRAME * processor:016x}: {PAGE_FRAME:016x} X------UW\r\n"
+    return {"info registers": registers, "info tlb": page * 2}[command]
 
+
+def serve_qmp(listener, mode):
+    """One connection after the other."""
+    while True:
+        connection, _ = listener.accept()
+        with connection, connection.makefile("rwb") as lines:
+            answer_qmp(lines, mode)
+
+
+def answer_qmp(lines, mode):
     def say(what):
         lines.write(json.dumps(what).encode() + b"\n")
         lines.flush()
@@ -241,6 +253,10 @@ def serve_qmp(listener, mode):
         elif request["execute"] == "qom-get":
             error = {"error": {"desc": "there is no such property"}}
             say(error if mode == "no-width" else {"return": answers[request["arguments"]["property"]]})
+        elif request["execute"] == "human-monitor-command":
+            text = monitor_text(request["arguments"]["command-line"], request["arguments"]["cpu-index"])
+            error = {"error": {"desc": "there is no monitor"}}
+            say(error if mode == "no-monitor" else {"return": {"no-text": 0, "no-pages": " "}.get(mode, text)})
         else:
             say({"return": {}})
 
@@ -270,9 +286,11 @@ def main():
         # As with QEMU, the memory is there when the stub can be reached.
         connection, _ = listen(paths["-gdb"]).accept()
         scripts = {"never": [], "ends-early": [], "closes": SCRIPT[:2], "hangs": SCRIPT[:2], "returns": RETURNS}
+        scripts["ends-late"] = SCRIPT[:-1]
         endings = {"never": "hang", "hangs": "hang", "closes": "close"}
         memory = MappedFile(file)
-        FakeStub(connection, memory, [paging(), paging()], scripts.get(mode, SCRIPT), endings.get(mode, "exit")).serve()
+        processors = [paging(), paging(cr0=0x10) if mode == "one-paging" else paging()]
+        FakeStub(connection, memory, processors, scripts.get(mode, SCRIPT), endings.get(mode, "exit")).serve()
     if mode in ("never", "hangs"):
         time.sleep(60)
 

@@ -1,8 +1,6 @@
 #!/usr/bin/env python3
 """Tests of core-cpus, over small cores that are made here. The note of a processor is one that QEMU 7.2.22 wrote."""
 import contextlib
-import importlib.machinery
-import importlib.util
 import io
 import os
 import pathlib
@@ -13,6 +11,7 @@ import tempfile
 import unittest
 from unittest import mock
 
+import in_process
 from make_example import core_of, machine_note
 
 TOOL = pathlib.Path(__file__).with_name("core-cpus")
@@ -66,14 +65,7 @@ cpu 0 0x80000001 0x3a10000 0x20 0xd00 0x2 0x0 0x0
 """
 
 
-def loaded():
-    loader = importlib.machinery.SourceFileLoader("core_cpus", str(TOOL))
-    module = importlib.util.module_from_spec(importlib.util.spec_from_loader("core_cpus", loader))
-    loader.exec_module(module)
-    return module
-
-
-tool = loaded()
+tool = in_process.load(TOOL)
 
 
 def note(owner, kind, description):

@@ -14,8 +14,10 @@ import threading
 import time
 import unittest
 from pathlib import Path
+from unittest import mock
 
 import fake_qemu
+import in_process
 from fake_qemu import CR3, CR4, END, INVLPG, INVPCID, IRETQ, POINT, START
 from fake_qemu import PAGE, TABLE, TEXT, TOP, Stop, elf_file, paging
 from qemu_record import Refusal
@@ -28,6 +30,8 @@ from qemu_record.tables import Root, TableWatch, Write, changes, referenced, tra
 
 TOOL = Path(__file__).with_name("qemu-record")
 FAKE = Path(__file__).with_name("fake_qemu.py")
+COMPARER = Path(__file__).parent.parent / "bench" / "guest_pages.py"
+tool = in_process.load(TOOL)
 
 # Registers with values that no two sums share.
 REGISTERS = {name: 0x1111 << 8 + number for number, name in enumerate(fake_qemu.GENERAL)}
@@ -406,7 +410,7 @@ class Fake:
         self.core_path = Path(self.folder.name, "core")
         with open(self.core_path, "wb+") as file:
             self.recorder.take_core(file, (40, True))
-        self.recorder.record()
+        self.is_there = self.recorder.record()
         return self.log.getvalue()
 
 
@@ -520,6 +524,7 @@ class Records(unittest.TestCase):
         self.assertEqual(self.recorded(script), ["point current"])
         lines = ["write 0x4000 0700000000000000", "write 0x4000 0000000000000000", "point current"]
         self.assertEqual(self.recorded(script, returns=True), lines)
+        self.assertEqual(self.recorded(script, named={IRETQ: {"stop"}}), lines)
 
     def test_a_processor_that_is_not_stated(self):
         low = {"cr0": 0x10, "cr3": TOP, "cr4": 0, "efer": 0, "eflags": 2}
@@ -578,9 +583,12 @@ class Records(unittest.TestCase):
 
     def test_the_ends(self):
         self.assertEqual(self.recorded([Stop(0, POINT)]), ["point current", "# The guest ended."])
+        self.assertFalse(self.fake.is_there)
+        self.assertEqual(self.recorded([Stop(0, POINT), Stop(0, END)]), ["point current"])
+        self.assertTrue(self.fake.is_there)
         self.refused("the guest reached no end in 0.1 seconds", [], timeout=0.1, ending="hang")
         lines = self.recorded([Stop(0, POINT)], seconds=0.1, ending="hang")
-        self.assertEqual(lines, ["point current"])
+        self.assertEqual((lines, self.fake.is_there), (["point current"], True))
         self.refused("QEMU's gdb stub closed the connection", [Stop(0, POINT)], ending="close")
 
     def test_the_last_writes_when_the_time_is_over(self):
@@ -623,12 +631,28 @@ class Tool(unittest.TestCase):
             env=environment,
         )
 
-    def run_tool(self, *words, mode="works", options=(), **more):
-        words = words or ("core", "log", "guest", "--qemu", str(FAKE), "--memory", "2", *options, "--", mode)
-        with self.started(*words, **more) as tool:
-            output, complaints = tool.communicate(timeout=30)
+    def words(self, mode="works", options=()):
+        return "core", "log", "guest", "--qemu", str(FAKE), "--memory", "2", *options, "--", mode
+
+    def run_alone(self, *words, **more):
+        """A run as a process of its own."""
+        with self.started(*words, **more) as process:
+            output, complaints = process.communicate(timeout=30)
         self.nothing_is_left()
-        return tool.returncode, (output or b"").decode(), complaints.decode()
+        return process.returncode, (output or b"").decode(), complaints.decode()
+
+    def run_tool(self, *words, mode="works", options=()):
+        handlers = {number: signal.getsignal(number) for number in tool.SIGNALS}
+        with (
+            contextlib.chdir(self.room),
+            mock.patch.dict(os.environ, {"FAKE_QEMU_PID": str(self.room / "pid")}),
+            mock.patch.object(tempfile, "tempdir", str(self.room / "temporary")),
+        ):
+            done = in_process.run(tool, *(words or self.words(mode, options)))
+        for number, handler in handlers.items():
+            signal.signal(number, handler)
+        self.nothing_is_left()
+        return done.returncode, done.stdout.decode(), done.stderr.decode()
 
     def nothing_is_left(self):
         """The guest has ended, and no file of a record that was broken off is there."""
@@ -641,10 +665,10 @@ class Tool(unittest.TestCase):
     def refused(self, why, *words, **more):
         status, output, complaints = self.run_tool(*words, **more)
         self.assertEqual((status, output, complaints), (1, "", f"qemu-record: {why}\n"))
-        self.assertFalse((self.room / "core").exists() or (self.room / "log").is_file())
+        self.assertFalse(any((self.room / name).is_file() for name in ("core", "log", "pages")))
 
     def test_a_record(self):
-        status, output, complaints = self.run_tool()
+        status, output, complaints = self.run_alone(*self.words())
         self.assertEqual((status, complaints), (0, ""))
         self.assertEqual(output, "processors 2, writes 1, sets 0, invalidations 2, points 1\n")
         events = [line for line in (self.room / "log").read_text().splitlines() if not line.startswith("#")]
@@ -672,8 +696,31 @@ class Tool(unittest.TestCase):
         self.assertEqual(len((self.room / "core").read_bytes()), 64 + 2 * 56 + 32 + 2 * 88 + 0x8000)
         quick = ("--start-after", "0.1", "--seconds", "0.1")
         self.assertEqual(self.run_tool(mode="never", options=quick)[0], 0)
-        for options, writes in ((), 0), (("--returns",), 2):
+        for options, writes in ((), 0), (("--returns",), 2), (("--stop", hex(IRETQ)), 2):
             self.assertIn(f" writes {writes},", self.run_tool(mode="returns", options=options)[1])
+
+    def test_pages(self):
+        def shown(number):
+            page = f"{PAGE + 0x1000 * number:016x}: {fake_qemu.PAGE_FRAME:016x} X------UW\n"
+            head = f"(qemu) cpu {number}\n(qemu) info registers\n\nCPU#{number}\nRAX={number:016x}\n"
+            return f"{head}(qemu) info tlb\n{page}{page}"
+
+        for mode, text in (("works", shown(0) + shown(1)), ("one-paging", shown(0))):
+            status, _, complaints = self.run_tool(mode=mode, options=("--pages", "pages"))
+            self.assertEqual((status, complaints), (0, ""))
+            self.assertEqual((self.room / "pages").read_bytes().decode(), text)
+        page = (PAGE, fake_qemu.PAGE_FRAME, "X------UW")
+        self.assertEqual(in_process.load(COMPARER).monitor_pages(text), {0: [page, page]})
+
+    def test_pages_that_are_not_shown(self):
+        for mode, why in (
+            ("ends-late", "the guest ended by itself, so that QEMU can't list its pages"),
+            ("no-monitor", "QEMU answers human-monitor-command with: there is no monitor"),
+            ("no-text", "QEMU's monitor doesn't answer `info registers` for processor 0"),
+            ("no-pages", "QEMU's monitor doesn't answer `info registers` for processor 0"),
+        ):
+            self.refused(why, mode=mode, options=("--pages", "pages"))
+        self.assertEqual(self.run_tool(mode="ends-late")[0], 0)
 
     def test_a_guest_that_does_not_start(self):
         self.refused("the guest doesn't start: fake_qemu: there is no such machine", mode="refuses")
@@ -719,19 +766,23 @@ class Tool(unittest.TestCase):
         self.refused("no/core: No such file or directory", "no/core", "log", "guest")
         self.refused("temporary: it isn't a regular file", "temporary", "log", "guest")
         self.refused("/dev/null: it isn't a regular file", "core", "/dev/null", "guest")
+        # An empty name is that of the folder.
+        self.refused(".: it isn't a regular file", "", "log", "guest")
+        self.refused("no/pages: No such file or directory", options=("--pages", "no/pages"))
+        for name in ("core", "log", "./core"):
+            self.refused("the file of --pages is CORE or LOG", options=("--pages", name))
 
     def test_a_signal(self):
         for number in (signal.SIGINT, signal.SIGTERM, signal.SIGHUP):
-            words = ("core", "log", "guest", "--qemu", str(FAKE), "--memory", "2", "--", "hangs")
-            with self.started(*words) as tool:
+            with self.started(*self.words("hangs")) as process:
                 deadline = time.monotonic() + 20
                 # With the core the start is reached; then the guest hangs.
                 core = self.room / "core.part"
                 while time.monotonic() < deadline and not (core.exists() and core.stat().st_size > 1 << 20):
                     time.sleep(0.01)
-                tool.send_signal(number)
-                output, complaints = tool.communicate(timeout=20)
-            self.assertEqual((tool.returncode, output), (130, b""))
+                process.send_signal(number)
+                output, complaints = process.communicate(timeout=20)
+            self.assertEqual((process.returncode, output), (130, b""))
             self.assertEqual(complaints, b"qemu-record: interrupted: nothing is kept\n")
             self.nothing_is_left()
             self.assertFalse((self.room / "core").exists() or (self.room / "log").exists())
@@ -739,7 +790,7 @@ class Tool(unittest.TestCase):
     def test_output_that_nobody_reads(self):
         reader, writer = os.pipe()
         os.close(reader)
-        status, _, complaints = self.run_tool(stdout=writer)
+        status, _, complaints = self.run_alone(*self.words(), stdout=writer)
         os.close(writer)
         self.assertEqual((status, complaints), (1, "qemu-record: standard output: Broken pipe\n"))
 
@@ -756,13 +807,14 @@ class Tool(unittest.TestCase):
             ["core", "log", "guest", "--range", "0x1000"],
             ["core", "log", "guest", "--range", "0x2000-0x1fff"],
         ):
-            with self.started(*words) as tool:
-                output, complaints = tool.communicate(timeout=20)
-            self.assertEqual((tool.returncode, output), (2, b""), words)
-            self.assertTrue(complaints.startswith(b"usage: qemu-record CORE LOG ELF"), words)
+            # Without words those of a whole run would stand in their place.
+            run = self.run_tool if words else self.run_alone
+            status, output, complaints = run(*words)
+            self.assertEqual((status, output), (2, ""), words)
+            self.assertTrue(complaints.startswith("usage: qemu-record CORE LOG ELF"), words)
 
     def test_help(self):
-        status, output, complaints = self.run_tool("--help")
+        status, output, complaints = self.run_alone("--help")
         self.assertEqual((status, complaints), (0, ""))
         for text in ("usage: qemu-record CORE LOG ELF", "isn't known", "isn't seen", "xchg %bx,%bx"):
             self.assertIn(text, output)

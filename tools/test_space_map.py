@@ -4,10 +4,11 @@ import os
 import pathlib
 import random
 import subprocess
-import sys
 import tempfile
 import unittest
 from xml.etree import ElementTree
+
+import in_process
 
 TOOL = pathlib.Path(__file__).with_name("space-map")
 SVG = "{http://www.w3.org/2000/svg}"
@@ -73,10 +74,11 @@ def random_listing(count):
     return listing(areas)
 
 
+tool = in_process.load(TOOL)
+
+
 def run(text, *words):
-    # Without the packages of the host, the interpreter starts in half the time.
-    command = [sys.executable, "-S", TOOL, *words]
-    return subprocess.run(command, input=text.encode(), capture_output=True, check=False)
+    return in_process.run(tool, *words, data=text.encode())
 
 
 class Summaries(unittest.TestCase):
@@ -175,8 +177,12 @@ class Summaries(unittest.TestCase):
         self.assertEqual(self.written(several, "--listing", "2"), self.written(GUEST))
         self.assertTrue(self.written(several, "--listing", "4").startswith("0 areas"))
 
-    def test_the_usage(self):
-        self.assertTrue(self.written("", "--help").startswith("usage: space-map "))
+    def test_the_command(self):
+        for words, start in (("--help", "usage: space-map "), ("", EXAMPLE_SUMMARY)):
+            command = [TOOL, *words.split()]
+            done = subprocess.run(command, input=EXAMPLE.encode(), capture_output=True, check=False)
+            self.assertEqual((done.returncode, done.stderr), (0, b""))
+            self.assertTrue(done.stdout.decode().startswith(start))
 
 
 class Refusals(unittest.TestCase):

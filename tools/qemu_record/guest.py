@@ -115,3 +115,15 @@ class Control:
         if not 32 <= width <= 52:
             raise Refusal(f"QEMU's first processor has {width} physical-address bits, and not 32 to 52")
         return width, big
+
+    def pages(self, processors):
+        """What QEMU's monitor says of the registers and the pages of processors, as in a session with it."""
+        lines = []
+        for number in processors:
+            lines.append(f"(qemu) cpu {number}")
+            for command in ("info registers", "info tlb"):
+                text = self.ask("human-monitor-command", **{"command-line": command, "cpu-index": number})
+                if not isinstance(text, str) or not text.strip():
+                    raise Refusal(f"QEMU's monitor doesn't answer `{command}` for processor {number}")
+                lines += [f"(qemu) {command}", *text.splitlines()]
+        return "".join(line + "\n" for line in lines)

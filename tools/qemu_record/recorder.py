@@ -49,7 +49,7 @@ class Settings:
         return found | {address for address, names in self.named.items() if names & kinds}
 
     def recorded(self):
-        kinds = {"invlpg", "invpcid", "cr0", "cr3", "cr4", "point", "end"}
+        kinds = {"invlpg", "invpcid", "cr0", "cr3", "cr4", "point", "end", "stop"}
         return self.addresses(kinds | {"return"} if self.returns else kinds)
 
 
@@ -149,6 +149,7 @@ class Recorder:
     # From stop to stop.
 
     def record(self):
+        """Writes the log up to its end. Whether the guest is still there then, and stopped."""
         for address in self.settings.recorded():
             self.stub.insert_breakpoint(address)
         wait = self.settings.timeout if self.settings.seconds is None else self.settings.seconds
@@ -159,11 +160,12 @@ class Recorder:
                 processor = self.stub.stopped(deadline)
                 if processor is None:
                     self.out_of_time()
-                    return
+                    return True
                 if self.handle_stop(processor):
-                    return
+                    return True
         except GuestEnded:
             self.log.write("# The guest ended.\n")
+            return False
 
     def out_of_time(self):
         if self.settings.seconds is None:
