@@ -622,6 +622,11 @@ class Tool(unittest.TestCase):
         (self.room / "guest").write_bytes(data)
 
     def started(self, *words, **more):
+        # What this process ignores, as after nohup, its children would ignore too.
+        for number in tool.SIGNALS:
+            if signal.getsignal(number) == signal.SIG_IGN:
+                signal.signal(number, signal.SIG_DFL)
+                self.addCleanup(signal.signal, number, signal.SIG_IGN)
         environment = {**os.environ, "FAKE_QEMU_PID": str(self.room / "pid"), "TMPDIR": str(self.room / "temporary")}
         return subprocess.Popen(
             # Without the modules of the site, which the tool needs none of: it starts faster.
