@@ -99,6 +99,21 @@ pub some-value : (digit : ℕ → Option ℕ) (base most n : ℕ) (word : List �
 some-value digit base most n word some few is =
     let counts : between 1 most (length word) ≡ true = grind (arith, nat_tests) in rw (is, counts) refl
 
+-- two digits at once
+abbrev two_in : Option ℕ → Option ℕ → Option ℕ
+two_in o p = option_and_then (λ h. option_map (λ l. 16 * h + l) p) o
+
+pub two-small : (o p : Option ℕ) → 16 * unwrap_or o 65536 + unwrap_or p 65536 < 256 → Some (16 * unwrap_or o 65536 + unwrap_or p 65536) ≡ two_in o p
+two-small None p small = absurd (omega (arith, small))
+two-small (Some h) None small = absurd (omega (arith, small))
+two-small (Some h) (Some l) small = refl
+
+pub two-great : (o p : Option ℕ) → IfSome o (λ digit. digit < 16) → IfSome p (λ digit. digit < 16)
+    → 256 ≤ 16 * unwrap_or o 65536 + unwrap_or p 65536 → None ≡ two_in o p
+two-great None p h l great = refl
+two-great (Some o) None h l great = refl
+two-great (Some o) (Some p) h l great = absurd (omega (arith, h, l, great))
+
 -- four digits at once
 abbrev four_in : Option ℕ → Option ℕ → Option ℕ → Option ℕ → Option ℕ
 four_in o p q r =

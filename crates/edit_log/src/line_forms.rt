@@ -71,14 +71,17 @@ pub(crate) fn event_of(alloc: Global, line: &[u8]) -> Result<Option<Event>, Line
     event_of_words(alloc, Words::of(line))
 }
 
-/// The event that words spell, by the first. Most lines are an `ask`. The compiler tests the words as for a `match`, on
-/// which the prover leaves goals open, since there are so many.
+/// The event that words spell, by the first. Most lines are an `ask` or a `write`. The compiler tests the words as for
+/// a `match`, on which the prover leaves goals open, since there are so many.
 #[tactic(auto, unfolding(crate::specs::LogLine::event_of_words), using(crate::proofs::SpelledEvents::lone_word))]
 fn event_of_words(alloc: Global, mut words: Words) -> Result<Option<Event>, LineFault>
     ensures { IsReadOf (event_of_words words.entry) result }
 {
     if let Some(rest) = words.after_ask() {
         return ask(rest);
+    }
+    if let Some(rest) = words.after_write() {
+        return write(alloc, rest);
     }
     let word = words.next()?;
     if word == b"ask".as_slice() {
@@ -148,7 +151,7 @@ fn regs(mut words: Words) -> Result<Regs, Misspelling>
     })
 }
 
-/// `write ADDR HEX`. Memory is taken only where the line has this form.
+/// `write ADDR HEX`. Out of memory comes only where the line has this form.
 #[inline(never)]
 #[tactic(auto, unfolding(crate::specs::LogLine::write_line), using(crate::proofs::LastWords::write_last))]
 fn write(alloc: Global, mut words: Words) -> Result<Option<Event>, LineFault>

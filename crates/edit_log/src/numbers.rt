@@ -2,7 +2,7 @@
 
 ghost use Rattle.std.specs.Prelude.{◌≡◌, ◌+◌, ◌*◌, ◌^◌, ◌<◌, ◌≤◌, length, unwrap_or, IfSome};
 ghost use Rattle.edit_log.specs.Numbers.{number_of, value_of, value_after, if_64_bits, decimal_digit, hex_digit};
-ghost use Rattle.edit_log.specs.Digits.{base_of, digit_in, four_of};
+ghost use Rattle.edit_log.specs.Digits.{base_of, byte_of, digit_in, four_of};
 
 /// The number that a word spells: `0x` and 1 to 16 hexadecimal digits, or 1 to 20 decimal digits, below 2 to the 64.
 #[tactic(auto, unfolding(crate::specs::Numbers::number_of))]
@@ -143,6 +143,14 @@ pub(crate) fn hex_digit(character: u8) -> Option<u8>
 {
     let value = entry(character);
     if value < 16 { Some(value as u8) } else { None }
+}
+
+/// The byte of two hexadecimal digits. Where one is none, the sum is too great for a byte.
+pub(crate) fn two_digits(high: u8, low: u8) -> Option<u8>
+    ensures { result ≡ byte_of high low }
+{
+    let byte = 16 * entry(high) + entry(low);
+    if byte < 256 { Some(byte as u8) } else { None }
 }
 
 /// The value of four hexadecimal digits.

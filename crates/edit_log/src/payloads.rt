@@ -2,13 +2,15 @@
 
 ghost use Rattle.std.specs.Prelude.{◌≡◌, ◌*◌, length, is_some, option_map, IfOk, IfErr, IfSome, IsSome};
 ghost use Rattle.edit_log.specs.LogLine.{payload_of, bytes_of};
-ghost use Rattle.edit_log.specs.Digits.{byte_of};
 
-use crate::numbers::hex_digit;
+use crate::numbers::{hex_digit, two_digits};
 use paging_model::byte_strings::Payload;
 use std::alloc::{AllocError, Global};
 
-/// The bytes of a write that a word spells, 1 to 4,096. Memory is taken only where it spells some.
+/// The bytes of a write that a word spells, 1 to 4,096.
+///
+/// They are read in one pass. Only out of memory is a word looked at once more, since one that spells no bytes is
+/// refused for that.
 #[tactic(auto, using(crate::proofs::Options::none_is))]
 pub(crate) fn payload(alloc: Global, word: &[u8]) -> Result<Option<Payload>, AllocError>
     ensures ok { IfOk result (λ bytes. bytes ≡ payload_of word.now) }
@@ -17,12 +19,11 @@ pub(crate) fn payload(alloc: Global, word: &[u8]) -> Result<Option<Payload>, All
     if word.len() < 2 || word.len() > 8192 {
         return Ok(None);
     }
-    if !spells_bytes(word) {
-        return Ok(None);
-    }
-    match bytes_in(alloc, word)? {
-        Some(bytes) => Ok(Some(Payload::from_vec(bytes))),
-        None => Ok(None),
+    match bytes_in(alloc, word) {
+        Ok(Some(bytes)) => Ok(Some(Payload::from_vec(bytes))),
+        Ok(None) => Ok(None),
+        Err(error) if spells_bytes(word) => Err(error),
+        Err(_) => Ok(None),
     }
 }
 
@@ -53,20 +54,10 @@ fn bytes_in(alloc: Global, word: &[u8]) -> Result<Option<Vec<u8>>, AllocError>
     }
     let mut bytes = Vec::with_capacity(alloc, count)?;
     for i in 0..count {
-        let Some(byte) = byte_of(word[2 * i], word[2 * i + 1]) else {
+        let Some(byte) = two_digits(word[2 * i], word[2 * i + 1]) else {
             return Ok(None);
         };
-        bytes.push(byte)?;
+        bytes.push_reserved(byte);
     }
     Ok(Some(bytes))
-}
-
-/// The byte of a pair of hexadecimal digits.
-fn byte_of(high: u8, low: u8) -> Option<u8>
-    ensures { result ≡ byte_of high low }
-{
-    let (Some(high), Some(low)) = (hex_digit(high), hex_digit(low)) else {
-        return None;
-    };
-    Some(16 * high + low)
 }

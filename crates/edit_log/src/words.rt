@@ -64,6 +64,16 @@ impl<'a> Words<'a> {
         }
     }
 
+    /// The words after the first, where that is `write` and others follow it, found as those after `ask`.
+    pub(crate) fn after_write(&self) -> Option<Words<'a>>
+        ensures { IfSome result (λ rest. self.now ≡ codes "write" ∷ rest) }
+    {
+        match self.line {
+            [b'w', b'r', b'i', b't', b'e', b' ', line @ ..] => Some(Words { line }),
+            _ => None,
+        }
+    }
+
     /// What is left, as one word. Where it is more than one, it has a space, and no word with a space spells anything:
     /// so it isn't searched for one.
     pub(crate) fn last(self) -> &'a [u8]

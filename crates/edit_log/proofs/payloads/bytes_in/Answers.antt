@@ -17,6 +17,7 @@ loop-i-preserved c =
     let pair = ap (λ x. option_map (λ more. done ++ more) (bytes_of x)) (pair_at word i (omega (arith, c.loop-i-test.true))) in
     record {
       same = bytes-more word done rest (get_or word (2 * i) 0) (get_or word (2 * i + 1) 0) c.in-Some.byte (c.loop-i.invariant.same ∙ pair) (sym c.in-Some.ensures)
-          ∙ ap (λ items. option_map (λ more. items ++ more) (bytes_of rest)) (sym c.in_ok-push.ensures.items);
+          ∙ ap (λ items. option_map (λ more. items ++ more) (bytes_of rest)) (sym c.push_reserved.ensures.items);
       count = grind (arith, common_steps);
+      room = grind (arith, common_steps);
     }
