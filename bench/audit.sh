@@ -1,19 +1,20 @@
 #!/usr/bin/env bash
 # Points in logs, and what their time grows with:
 #
-#     audit.sh [POINTS [ROUNDS]]
+#     audit.sh [ROUNDS]
 #
-# make_points.c makes the cores, the logs, and what the points are to be answered. A log has POINTS points at its end,
-# 100 where it isn't said, or ten times as many. The time of NAME is that of its log less that of the same log without
-# points. The parts:
+# make_points.c makes the cores, the logs, and what the points are to be answered. A log has points at its end, as many
+# as take half a second or so. What is compared is the time for one of them: that of the log, less that of the same log
+# without points, by their number. The parts:
 #
-#   listings        a `list` line in place of each point of the next one
+#   listings        `list` lines in place of the points of the next one
 #   unchanged       74,240 pages in full tables; nothing was written since the processor lost all that it held
 #   written         the same after 1,000 writes to 100 tables
 #
-#   asks            as many `ask` lines as the next one has events
+#   asks            ten times as many `ask` lines as the next one has events
 #   often           ROUNDS rounds of 100 events, 1,000 where it isn't said. Each begins with an invalidation of
-#                   everything, and each tenth event is a point. Of both, the time is that less that for the state lines
+#                   everything, and each tenth event is a point. Of both, the time is that for an event, less that for
+#                   the state lines
 #
 #   flips N         the accessed bit of an entry of the top table changed N times
 #   processors N    so many of them
@@ -28,9 +29,8 @@
 # Wants 200 MBytes of disk.
 set -euo pipefail
 
-[ $# -le 2 ] || { echo "usage: audit.sh [POINTS [ROUNDS]]" >&2; exit 2; }
-points=${1:-100}
-rounds=${2:-1000}
+[ $# -le 1 ] || { echo "usage: audit.sh [ROUNDS]" >&2; exit 2; }
+rounds=${1:-1000}
 bench=$(dirname "$(readlink -f "${BASH_SOURCE[0]}")")
 top=$bench/..
 work=$(mktemp -d)
@@ -41,6 +41,9 @@ program=$top/crates/rights/out/rights
 for source in make_points make_asks; do
     gcc -O2 -Wall -Wextra -o "$work/$source" "$bench/$source.c"
 done
+
+# How many points, lists or events the log of a name has.
+declare -A counts
 
 make() { "$work/make_points" "$work/$1.core" "$work/$1.log" "$work/$1.answers" "${@:2}"; }
 
@@ -59,12 +62,14 @@ points() {
         make "$name" "${@:3}" stale=$stale
         same "$name"
     done
+    counts[$name]=$count
     make "$name" "${@:3}" points="$count"
     sed '/^point /d' "$work/$name.log" >"$work/$name.without"
 }
 
-# Another log over the core of one: beside NAME OTHER
+# Another log over the core of one, of so many lines: beside NAME OTHER COUNT
 beside() {
+    counts[$2]=$3
     ln "$work/$1.core" "$work/$2.core"
     cp "$work/$1.without" "$work/$2.without"
 }
@@ -76,56 +81,61 @@ compare() {
     local name commands=() differences=()
     for name; do
         commands+=("$name, log" "$(timed "$name" log)" "$name, without" "$(timed "$name" without)")
-        differences+=(--less "$name" "$name, log" "$name, without")
+        differences+=(--one "$name" "$name, log" "$name, without" "${counts[$name]}")
     done
     "$bench/ratios.py" --to "$1" "${differences[@]}" "${commands[@]}" | grep -vE '^.*, (log|without) '
     for name; do rm "$work/$name".*; done
     echo
 }
 
-many=$((10 * points))
-echo "$many points each over 74,240 pages, and as many listings"
-points unchanged $many leaves=74240
-points written $many leaves=74240 writes=1000 tables=100
-beside unchanged listings
-sed 's/^point .*/list 0/' "$work/unchanged.log" >"$work/listings.log"
+echo "points over 74,240 pages, and listings"
+points unchanged 1000000 leaves=74240
+points written 2000 leaves=74240 writes=1000 tables=100
+beside unchanged listings 1000
+cp "$work/listings.without" "$work/listings.log"
+seq 1000 | sed 's/.*/list 0/' >>"$work/listings.log"
 compare listings unchanged written
 
-echo "$((100 * rounds)) events, of which each tenth is a point, and as many questions"
+events=$((100 * rounds))
+echo "$events events, of which each tenth is a point, and ten times as many questions"
 make often rounds="$rounds" leaves=8192
 same often
+counts[often]=$events
 grep -E '^(machine|cpu) ' "$work/often.log" >"$work/often.without"
-beside often asks
-"$work/make_asks" "$work/often.core" "$work/often.without" $((100 * rounds)) >"$work/asks.log"
+beside often asks $((10 * events))
+"$work/make_asks" "$work/often.core" "$work/often.without" $((10 * events)) >"$work/asks.log"
 compare asks often
 
-echo "$points points after so many changes of an accessed bit"
-for flips in 25000 50000 100000; do points "flips $flips" "$points" flips=$flips; done
+echo "points after so many changes of an accessed bit"
+for flips in 25000 50000 100000; do points "flips $flips" 400 flips=$flips; done
 compare "flips 25000" "flips 50000" "flips 100000"
 
-echo "$points points with so many processors"
-for processors in 1 64; do points "processors $processors" "$points" processors=$processors writes=10; done
+echo "points with so many processors"
+points "processors 1" 50000 processors=1 writes=10
+points "processors 64" 1000 processors=64 writes=10
 compare "processors 1" "processors 64"
 
-echo "$points points with so many PCIDs"
-points "PCIDs 1" "$points" writes=100
-points "PCIDs 16, current" "$points" writes=100 pcids=16
-points "PCIDs 16, all" "$points" writes=100 pcids=16 all=1
+echo "points with so many PCIDs"
+points "PCIDs 1" 10000 writes=100
+points "PCIDs 16, current" 100 writes=100 pcids=16
+points "PCIDs 16, all" 10 writes=100 pcids=16 all=1
 compare "PCIDs 1" "PCIDs 16, current" "PCIDs 16, all"
 
-# Three sizes of one parameter: grows PARAMETER SIZE..
+# Three sizes of one parameter, each with its number of points: grows PARAMETER SIZE COUNT SIZE COUNT SIZE COUNT
 grows() {
-    local parameter=$1 size names=()
-    for size in "${@:2}"; do
-        points "$parameter $size" "$points" writes=100 tables=10 all=1 "$parameter=$size"
-        names+=("$parameter $size")
+    local parameter=$1 names=()
+    shift
+    while [ $# -gt 0 ]; do
+        points "$parameter $1" "$2" writes=100 tables=10 all=1 "$parameter=$1"
+        names+=("$parameter $1")
+        shift 2
     done
     compare "${names[@]}"
 }
 
-echo "$points points each"
-grows leaves 5120 20480 81920
-grows writes 100 1000 10000
-grows pcids 1 4 16
-grows processors 1 8 64
-grows events 1000 10000 100000
+echo "points, and what their time grows with"
+grows leaves 5120 10000 20480 10000 81920 10000
+grows writes 100 10000 1000 1000 10000 100
+grows pcids 1 10000 4 100 16 10
+grows processors 1 10000 8 2000 64 500
+grows events 1000 5000 10000 2000 100000 500

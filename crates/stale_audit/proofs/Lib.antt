@@ -2,7 +2,7 @@ pub mod EntryLaws
 pub mod LeafLaws
 pub mod ReferenceLaws
 pub mod SlotLaws
-pub mod QuietLaws
+pub mod UnchangedLaws
 pub mod RangeLaws
 pub mod UnderLaws
 pub mod TableLaws

@@ -3,10 +3,11 @@ use Rattle.std.proofs.Common.{◌≡◌, ◌≢◌, ℕ, zero, suc, ◌+◌, ◌
 use Rattle.std.specs.BTreeMap.{BTreeMap, get, is_at}
 use Rattle.std.specs.Map.{lookup}
 use Rattle.std.specs.Ordering.{nat_cmp}
-use Rattle.std.specs.Prelude.{◌==◌, nat_lt, option_map, unwrap_or, if◌then◌else◌}
+use Rattle.std.specs.Prelude.{◌==◌, nat_lt, not, option_map, unwrap_or, if◌then◌else◌}
 use Rattle.std.proofs.Math.Nat.{le-max_left, le-max_right}
+use Rattle.std.proofs.lemmas.Bool.{cases_lt}
 use Rattle.std.proofs.lemmas.Bool.Decides.{nat_tests}
-use Rattle.paging_model.specs.Entries.{entry_of, joined_bits}
+use Rattle.paging_model.specs.Entries.{entry_of, is_present, joined_bits}
 use Rattle.paging_model.specs.LinearAddress.{index, span}
 use Rattle.paging_model.specs.Memory.{entry_at}
 use Rattle.paging_model.specs.Registers.{pge}
@@ -36,7 +37,7 @@ use Rattle.version_store.proofs.LastTimes.{last_time-kept}
 use Rattle.stale_audit.specs.Facts.{Facts, AreTimely, IsOfHome, made_in_pcid, made_of_value, made_with, makes_of, present_at, settings_with, takes_of}
 use Rattle.stale_audit.specs.Findings.{IsFoundIn, NothingFound}
 use Rattle.stale_audit.specs.SlotEntries.{IsSteadySlot}
-use Rattle.stale_audit.specs.SteadyTables.{AreKnownSteady, HadOneNxe, IsSteadyBelow, IsSteadyPlace, IsSteadyTable, meaning_now}
+use Rattle.stale_audit.specs.SteadyTables.{AreKnownSteady, HadOneNxe, IsAbsent, IsSteadyBelow, IsSteadyPlace, IsSteadyTable, meaning_now}
 use Rattle.stale_audit.proofs.EntryLaws.{clash}
 
 -- changes none of which comes after a time
@@ -262,35 +263,73 @@ steady-settled facts range table bits ready one_nxe home there_is steady in_use 
 
 -- where nothing changed after the horizon, every table is steady
 pub all_steady : (facts : Facts) (level table : ℕ) → last_kept_time facts.kept ≤ facts.host.horizon → IsSteadyTable facts level table
-all_steady facts zero table quiet = tt
-all_steady facts (suc lower) table quiet = λ i below.
+all_steady facts zero table unchanged = tt
+all_steady facts (suc lower) table unchanged = λ i below.
     let frame = (table + 8 * i) / 4096 in
     let least = last_time-kept facts.kept frame in (
-      none-after (changes_of facts.kept frame) ((table + 8 * i) % 4096) facts.host.horizon (omega (arith, quiet, least)),
-      λ at bits is. all_steady facts lower at quiet,
+      none-after (changes_of facts.kept frame) ((table + 8 * i) % 4096) facts.host.horizon (omega (arith, unchanged, least)),
+      λ at bits is. all_steady facts lower at unchanged,
     )
 
 -- a table of level 1 of which no slot changed
 pub last_steady : (facts : Facts) (table : ℕ) → table % 4096 ≡ 0 → last_time (changes_of facts.kept (table / 4096)) ≤ facts.host.horizon
     → IsSteadyTable facts 1 table
-last_steady facts table aligned quiet = λ i below.
+last_steady facts table aligned unchanged = λ i below.
     let frame : table / 4096 ≡ (table + 8 * i) / 4096 = omega arith in (
       none-after (changes_of facts.kept ((table + 8 * i) / 4096)) ((table + 8 * i) % 4096) facts.host.horizon
-          (subst (λ n. last_time (changes_of facts.kept n) ≤ facts.host.horizon) frame quiet),
+          (subst (λ n. last_time (changes_of facts.kept n) ≤ facts.host.horizon) frame unchanged),
       λ at bits is. tt,
     )
 
 -- a table of which no slot changed, nor one of the tables below
 pub table-steady : (facts : Facts) (level table : ℕ) → 1 ≤ level → table % 4096 ≡ 0 → last_time (changes_of facts.kept (table / 4096)) ≤ facts.host.horizon
     → ((i : ℕ) → i < 512 → IsSteadyBelow facts level (table + 8 * i)) → IsSteadyTable facts level table
-table-steady facts zero table least aligned quiet below = absurd (omega arith)
-table-steady facts (suc lower) table least aligned quiet below = λ i within.
+table-steady facts zero table least aligned unchanged below = absurd (omega arith)
+table-steady facts (suc lower) table least aligned unchanged below = λ i within.
     let frame : table / 4096 ≡ (table + 8 * i) / 4096 = omega arith in
     let lower_is : suc lower - 1 ≡ lower = omega arith in (
       none-after (changes_of facts.kept ((table + 8 * i) / 4096)) ((table + 8 * i) % 4096) facts.host.horizon
-          (subst (λ n. last_time (changes_of facts.kept n) ≤ facts.host.horizon) frame quiet),
+          (subst (λ n. last_time (changes_of facts.kept n) ≤ facts.host.horizon) frame unchanged),
       λ at bits is. subst (λ n. IsSteadyTable facts n at) lower_is (below i within at bits is),
     )
+
+-- an absent entry references no table
+pub absent-below : (facts : Facts) (level slot : ℕ) → IsAbsent (entry_at (memory_of facts.seen) slot) → IsSteadyBelow facts level slot
+unfolding entry_of
+absent-below facts level slot absent frame bits h = by_entry (entry_at (memory_of facts.seen) slot) absent h
+  where
+    by_test : (b : Bool) (other : Entry) → b ≡ false → (if not b then entry.Absent else other) ≡ entry.Table frame bits → IsSteadyTable facts (level - 1) frame
+    by_test true other is h = absurd (cc)
+    by_test false other is h = absurd (cc)
+
+    by_entry : (found : Option ℕ) → IsAbsent found → option_map (λ value. entry_of level facts.settings value) found ≡ Some (entry.Table frame bits)
+        → IsSteadyTable facts (level - 1) frame
+    by_entry None none h = absurd (cc)
+    by_entry (Some value) none h = by_test (is_present value) _ none (some-same _ _ h)
+
+-- as far as the next present one, all of which are absent
+pub steady-absent : (facts : Facts) (level at from i : ℕ) → ((k : ℕ) → from ≤ k → k < i → IsAbsent (entry_at (memory_of facts.seen) (at + 8 * k)))
+    → (k : ℕ) → from ≤ k → k < i → IsSteadyBelow facts level (at + 8 * k)
+steady-absent facts level at from i absent k low high = absent-below facts level (at + 8 * k) (absent k low high)
+
+-- all slots of a table, where none is left
+pub all-below : (facts : Facts) (level at table n : ℕ) → at ≡ table → ((k : ℕ) → 0 ≤ k → k < n → IsSteadyBelow facts level (at + 8 * k))
+    → (n == 512) ≡ true → (i : ℕ) → i < 512 → IsSteadyBelow facts level (table + 8 * i)
+all-below facts level at table n at_is steady all i within =
+    let is : n ≡ 512 = grind (arith, nat_tests, all) in
+    subst (λ start. IsSteadyBelow facts level (start + 8 * i)) at_is (steady i (omega arith) (omega (arith, is, within)))
+
+-- the tables that slots reference up to one, which is looked at, and further up to the next present one
+pub steady-on : (facts : Facts) (level at from i j : ℕ) → ((k : ℕ) → from ≤ k → k < i → IsSteadyBelow facts level (at + 8 * k))
+    → IsSteadyBelow facts level (at + 8 * i) → ((k : ℕ) → i + 1 ≤ k → k < j → IsAbsent (entry_at (memory_of facts.seen) (at + 8 * k)))
+    → (k : ℕ) → from ≤ k → k < j → IsSteadyBelow facts level (at + 8 * k)
+steady-on facts level at from i j before here absent k low high = elim (cases_lt k i) [
+  | inl less ↦ before k low less
+  | inr least ↦ elim (cases_lt i k) [
+    | inl more ↦ absent-below facts level (at + 8 * k) (absent k (omega (arith, more)) high)
+    | inr most ↦ let is : i ≡ k = omega (arith, least, most) in subst (λ n. IsSteadyBelow facts level (at + 8 * n)) is here
+  ]
+]
 
 -- what is known of tables, with one more
 pub known-more : (facts : Facts) (known more : BTreeMap ℕ Bool) (level table key : ℕ) (steady : Bool) → level ≤ 5 → table % 4096 ≡ 0 → key ≡ table + level

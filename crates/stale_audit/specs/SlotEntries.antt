@@ -9,7 +9,9 @@ use Rattle.cache_rules.specs.Removals.{removed_in}
 use Rattle.held_times.specs.HeldTimes.{IsHeldAt}
 use Rattle.past_entries.specs.Fills.{held_of_fill}
 use Rattle.past_entries.specs.declared.entries.PastEntry.{PastEntry}
+use Rattle.past_entries.specs.declared.fills.Fill.{Fill}
 use Rattle.present_pages.specs.StalePages.{IsPageIn}
+use Rattle.present_pages.specs.declared.stale_pages.HeldPage.{HeldPage}
 use Rattle.time_sets.specs.Sets.{has_time}
 use Rattle.version_store.specs.Changes.{value_at}
 use Rattle.stale_audit.specs.Facts.{Facts, IsStaleBy, made_with}
@@ -63,6 +65,10 @@ abbrev pub IsFillHeldAt : Facts → ℕ → ℕ → PastEntry → ℕ → Type 0
 IsFillHeldAt facts level first entry u =
     IsHeldAt (removed_in facts.host.removals (cache_key facts.under level first (held_of_fill entry.fill)))
     entry.times facts.end u
+
+-- the page that is held of an entry of a level
+abbrev pub held_page : ℕ → Fill → HeldPage
+held_page level fill = record { level = level; frame = fill.frame; bits = fill.bits; key = fill.key }
 
 -- a translation by an entry that was made at some times is held now, and stale at a page
 pub record IsLeafOf (facts : Facts) (level first : ℕ) (entry : PastEntry) (one : StalePage) : Type 0 where

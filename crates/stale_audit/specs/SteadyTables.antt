@@ -2,7 +2,7 @@
 use Rattle.std.specs.Prelude.{◌≡◌, ℕ, zero, suc, ◌+◌, ◌-◌, ◌*◌, ◌%◌, ◌≤◌, ◌<◌, Bool, true, false, if◌then◌else◌, Option, Some, None, IfSome, option_map}
 use Rattle.std.specs.BTreeMap.{BTreeMap, get}
 use Rattle.std.specs.Ordering.{nat_cmp}
-use Rattle.paging_model.specs.Entries.{entry_of}
+use Rattle.paging_model.specs.Entries.{entry_of, is_present}
 use Rattle.paging_model.specs.Memory.{entry_at}
 use Rattle.paging_model.specs.Translations.{raw_target, raw_target_of}
 use Rattle.paging_model.specs.Walking.{walk_from}
@@ -26,6 +26,10 @@ abbrev pub meaning_now : Facts → ℕ → ℕ → Option Entry
 meaning_now facts level slot =
     option_map (λ value. entry_of level facts.settings value) (entry_at (memory_of facts.seen) slot)
 
+-- an entry isn't present, or its bytes aren't known
+abbrev pub IsAbsent : Option ℕ → Type 0
+IsAbsent entry = IfSome entry (λ value. is_present value ≡ false)
+
 -- no slot of a table of a level changed after the horizon, nor one of the tables below
 abbrev pub IsSteadyTable : Facts → ℕ → ℕ → Type 0
 IsSteadyTable facts zero table = Unit {0}
@@ -48,8 +52,8 @@ pub record IsSteadyPlace (facts : Facts) (level slot : ℕ) : Type 0 where
 abbrev pub entries_of_table : Facts → ℕ → SeenEntries
 entries_of_table facts frame = record { seen = facts.seen; at = frame; count = 512 }
 
--- the entries of a table that have to be looked at to find its quiet slots: all those of a present one, or none where nothing
--- below its slots has changed
+-- the entries of a table that have to be looked at to find the slots to audit: all those of a present one, or none where
+-- nothing below its slots has changed
 pub record AreToLookAt (facts : Facts) (level : ℕ) (table : TimedTable) (entries : Option SeenEntries) : Type 0 where
   pub all : IfSome entries (λ some. some ≡ entries_of_table facts table.frame)
   pub present : IfSome entries (λ some. table.present ≡ true)

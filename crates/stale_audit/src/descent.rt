@@ -13,10 +13,10 @@ ghost use Rattle.stale_audit.specs.SteadyTables.{AreKnownSteady, IsWalkedTo};
 ghost use Rattle.time_sets.specs.Sets.{has_time};
 
 use crate::firsts::first_of_two;
-use crate::noisy_slots::{entries_to_look_at, next_noisy};
 use crate::point::Point;
 use crate::ranges::slot_range;
 use crate::slots::slot_findings;
+use crate::slots_to_audit::{entries_to_look_at, next_slot_to_audit};
 use crate::steady_tables::{ENTRIES, KnownTables, is_steady};
 use crate::timed_tables::{TimedTable, timed_table};
 use audit_laws::stale_pages::StalePage;
@@ -52,14 +52,14 @@ fn audit_table<L: Ledger>(
 {
     let level = range.level - 1;
     let entries = entries_to_look_at(point, table, level, steps);
-    let mut i = next_noisy(point, table, level, &entries, 0, known, steps)?;
+    let mut i = next_slot_to_audit(point, table, level, &entries, 0, known, steps)?;
     while i < ENTRIES {
         let slot = slot_range(point, range, i as u64, steps);
         let found = audit_slot(point, table, slot, known, steps)?;
         if found.is_some() {
             return Ok(found);
         }
-        i = next_noisy(point, table, level, &entries, i + 1, known, steps)?;
+        i = next_slot_to_audit(point, table, level, &entries, i + 1, known, steps)?;
     }
     Ok(None)
 }

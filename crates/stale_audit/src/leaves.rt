@@ -6,9 +6,11 @@ ghost use Rattle.history_model.specs.CachedTranslations.{Held};
 ghost use Rattle.paging_model.specs.LinearAddress.{span};
 ghost use Rattle.past_entries.specs.Fills.{FitsLevel};
 ghost use Rattle.past_entries.specs.PastEntries.{AllFitLevel, WasMade};
-ghost use Rattle.present_pages.specs.PresentRanges.{IsPresentRange};
+ghost use Rattle.phys_view.specs.Seen.{memory_of};
+ghost use Rattle.present_pages.specs.PresentRanges.{IsPresentRange, maps};
+ghost use Rattle.present_pages.specs.StalePages.{IsStaleIn};
 ghost use Rattle.stale_audit.specs.Facts.{IsOfHome};
-ghost use Rattle.stale_audit.specs.SlotEntries.{IsLeafOf, IsLeafOfSome, entries_at};
+ghost use Rattle.stale_audit.specs.SlotEntries.{IsLeafOf, IsLeafOfSome, entries_at, held_page};
 ghost use Rattle.time_sets.specs.Sets.{has_time};
 
 use crate::firsts::first_of_two;
@@ -91,9 +93,36 @@ fn leaf_of<L: Ledger>(
         return None;
     }
     let key = point.key_of(range.level, range.first, fill);
+    if range.level == 1 {
+        // One page is compared at once, but an entry is put to all later invalidations.
+        let found = first_page(point, range, fill, steps)?;
+        return if is_held(point.host, &key, times, point.end) {
+            Some(found)
+        } else {
+            None
+        };
+    }
     if !is_held(point.host, &key, times, point.end) {
         return None;
     }
+    first_page(point, range, fill, steps)
+}
+
+/// The first page of a slot's range at which the translation by an entry exceeds the present tables.
+fn first_page<L: Ledger>(
+    point: &Point<'_, '_, L>,
+    range: PresentRange,
+    fill: &Fill,
+    steps: &mut Steps<L>,
+) -> Option<StalePage>
+    requires range { IsPresentRange range }
+    requires most { range.level ≤ 5 }
+    requires leaf { fill.now.leaf ≡ true }
+    requires fits { FitsLevel range.level fill.now }
+    ensures { IsFirst (IsStaleIn point.now.host.regs (held_page range.level fill.now)
+        (maps (memory_of point.now.seen) point.now.settings range.level range.first range.there)
+        range.first (range.first + span range.level)) result }
+{
     let held = HeldPage {
         level: range.level,
         frame: fill.frame,

@@ -1,20 +1,26 @@
 //! Tables that serve addresses as they did at each time since the horizon.
 
-ghost use Rattle.std.specs.Prelude.{◌≡◌, ◌≢◌, ℕ, ◌+◌, ◌*◌, ◌<◌, ◌≤◌, true, Ok, Some, IfSome, OnOk, OnErr, option_map};
+ghost use Rattle.std.specs.Prelude.{◌≡◌, ◌≢◌, ℕ, ◌+◌, ◌*◌, ◌<◌, ◌≤◌, true, false, Ok, Some, IfOk, IfSome, OnOk, OnErr, option_map};
 ghost use Rattle.std.specs.BTreeMap.{get};
 ghost use Rattle.std.specs.Ordering.{nat_cmp};
 ghost use Rattle.paging_model.specs.Entries.{IsFrame, entry_of};
+ghost use Rattle.paging_model.specs.Memory.{entry_at};
 ghost use Rattle.paging_model.specs.declared.entries.Bits.{Bits};
 ghost use Rattle.paging_model.specs.declared.entries.Entry.TheVariants.{Table};
-ghost use Rattle.stale_audit.specs.SteadyTables.{AreKnownSteady, IsSteadyBelow, IsSteadyTable};
+ghost use Rattle.phys_view.specs.Seen.{memory_of};
+ghost use Rattle.stale_audit.specs.SteadyTables.{AreKnownSteady, IsAbsent, IsSteadyBelow, IsSteadyTable};
 
 use crate::point::Point;
 use entry_decode::decode;
 use paging_model::entries::Entry;
 use paging_model::registers::Settings;
-use phys_view::{Ledger, Steps};
+use phys_view::{Entries, Ledger, Steps};
+use proc_regs::bit_ranges::bit;
 use std::alloc::AllocError;
 use std::collections::BTreeMap;
+
+/// P, the bit of an entry that is present.
+const PRESENT: u8 = 0;
 
 /// The number of entries of a table.
 pub(crate) const ENTRIES: usize = 512;
@@ -51,42 +57,104 @@ pub(crate) fn is_steady<L: Ledger>(
     if let Some(steady) = known.get(&key) {
         return Ok(*steady);
     }
-    let steady = are_steady_below(point, level, table, known, steps)?;
+    let entries = point.view.entries(table, ENTRIES, steps);
+    let steady = next_unsteady(point, level, &entries, 0, ENTRIES, known, steps)? == ENTRIES;
     remember(known, key, steady)?;
     Ok(steady)
 }
 
-/// Whether no slot of the tables changed that the entries of a table of a level reference, nor one of those below.
+/// The first slot of a table of a level, from one on and before `end`, that is above a table that isn't known as
+/// steady: `end` where there is none.
 #[cycle(search)]
-fn are_steady_below<L: Ledger>(
+pub(crate) fn next_unsteady<L: Ledger>(
     point: &Point<'_, '_, L>,
     level: u8,
-    table: u64,
+    entries: &Entries<'_, '_, L>,
+    from: usize,
+    end: usize,
+    known: &mut KnownTables,
+    steps: &mut Steps<L>,
+) -> Result<usize, AllocError>
+    requires least { 2 ≤ level }
+    requires most { level ≤ 5 }
+    requires seen { entries.now.seen ≡ point.now.seen }
+    requires count { entries.now.count ≡ 512 }
+    requires order { from ≤ end }
+    requires end { end ≤ 512 }
+    requires known { AreKnownSteady point.now known.old }
+    ensures least { IfOk result (λ i. from ≤ i) }
+    ensures most { IfOk result (λ i. i ≤ end) }
+    ensures steady { IfOk result (λ i. (k : ℕ) → from ≤ k → k < i
+        → IsSteadyBelow point.now level (entries.now.at + 8 * k)) }
+    ensures known { AreKnownSteady point.now known.new }
+{
+    let mut i = next_present(entries, from, end);
+    while i < end {
+        if !is_steady_below(point, level, entries, i, known, steps)? {
+            return Ok(i);
+        }
+        i = next_present(entries, i + 1, end);
+    }
+    Ok(end)
+}
+
+/// Whether the table that an entry of a table of a level references is steady, if it references one.
+#[cycle(search)]
+fn is_steady_below<L: Ledger>(
+    point: &Point<'_, '_, L>,
+    level: u8,
+    entries: &Entries<'_, '_, L>,
+    i: usize,
     known: &mut KnownTables,
     steps: &mut Steps<L>,
 ) -> Result<bool, AllocError>
     requires least { 2 ≤ level }
     requires most { level ≤ 5 }
-    requires frame { IsFrame table }
+    requires seen { entries.now.seen ≡ point.now.seen }
+    requires slot { i < entries.now.count }
     requires known { AreKnownSteady point.now known.old }
-    ensures steady { result ≡ Ok true → (i : ℕ) → i < 512
-        → IsSteadyBelow point.now level (table + 8 * i) }
+    ensures steady { result ≡ Ok true
+        → IsSteadyBelow point.now level (entries.now.at + 8 * i) }
     ensures known { AreKnownSteady point.now known.new }
 {
-    let entries = point.view.entries(table, ENTRIES, steps);
-    for i in 0..ENTRIES {
-        if let Some(lower) = table_of(level, &point.settings, entries.get(i)) {
-            if !is_steady(point, level - 1, lower, known, steps)? {
-                return Ok(false);
-            }
+    match table_of(level, &point.settings, entries.get(i)) {
+        Some(lower) => is_steady(point, level - 1, lower, known, steps),
+        None => Ok(true),
+    }
+}
+
+/// The place of the first of some entries, from one on and before `end`, that is present: `end` where there is none.
+/// Most are absent, so none is decoded here, and nothing else is done.
+fn next_present<L: Ledger>(entries: &Entries<'_, '_, L>, from: usize, end: usize) -> usize
+    requires order { from ≤ end }
+    requires within { end ≤ entries.now.count }
+    ensures least { from ≤ result }
+    ensures most { result ≤ end }
+    ensures absent { (k : ℕ) → from ≤ k → k < result
+        → IsAbsent (entry_at (memory_of entries.now.seen) (entries.now.at + 8 * k)) }
+{
+    for i in from..end {
+        if is_present(entries.get(i)) {
+            return i;
         }
     }
-    Ok(true)
+    end
+}
+
+/// Whether an entry is known, and present.
+#[inline]
+fn is_present(entry: Option<u64>) -> bool
+    ensures { result ≡ false → IsAbsent entry }
+{
+    match entry {
+        Some(value) => bit(value, PRESENT),
+        None => false,
+    }
 }
 
 /// The table that an entry of a level references.
 #[inline]
-pub(crate) fn table_of(level: u8, settings: &Settings, entry: Option<u64>) -> Option<u64>
+fn table_of(level: u8, settings: &Settings, entry: Option<u64>) -> Option<u64>
     requires least { 1 ≤ level }
     requires most { level ≤ 5 }
     ensures value { (table : ℕ) (bits : Bits)

@@ -15,9 +15,9 @@ ghost use Rattle.time_sets.specs.Sets.{has_time};
 
 use crate::descent::audit_slot;
 use crate::firsts::first_of_two;
-use crate::noisy_slots::{entries_to_look_at, next_noisy};
 use crate::point::Point;
 use crate::ranges::{ROOT_BITS, top_level as top_level_of, top_range};
+use crate::slots_to_audit::{entries_to_look_at, next_slot_to_audit};
 use crate::steady_tables::{ENTRIES, KnownTables};
 use crate::timed_tables::timed_table;
 use audit_laws::stale_pages::StalePage;
@@ -70,14 +70,14 @@ fn audit_top<L: Ledger>(
     let table = timed_table(point, root, ROOT_BITS, in_use, present)?;
     let level = top_level_of(&point.settings);
     let entries = entries_to_look_at(point, &table, level, steps);
-    let mut i = next_noisy(point, &table, level, &entries, 0, known, steps)?;
+    let mut i = next_slot_to_audit(point, &table, level, &entries, 0, known, steps)?;
     while i < ENTRIES {
         let slot = top_range(point, i as u64, steps);
         let found = audit_slot(point, &table, slot, known, steps)?;
         if found.is_some() {
             return Ok(found);
         }
-        i = next_noisy(point, &table, level, &entries, i + 1, known, steps)?;
+        i = next_slot_to_audit(point, &table, level, &entries, i + 1, known, steps)?;
     }
     Ok(None)
 }

@@ -12,12 +12,14 @@ const GROUP_LEN: usize = 16;
 const GROUPS: usize = SLOTS_PER_FRAME / GROUP_LEN;
 
 /// Which slots of a frame changed, one after another. They stand in groups, so that the next one that changed is found
-/// without a look at each between.
+/// without a look at each between, and none is looked at after the last.
 #[derive(Debug, Drop)]
 pub struct ChangedSlots {
     slots: [bool; SLOTS_PER_FRAME],
     /// Whether a slot of a group changed.
     groups: [bool; GROUPS],
+    /// The place after the last one that changed, 0 where none did.
+    end: usize,
 }
 
 impl Model for ChangedSlots {
@@ -28,7 +30,7 @@ impl Model for ChangedSlots {
 
     ghost view = { λ changed. changed.slots };
 
-    ghost invariant = { λ changed. AreGrouped changed.slots changed.groups };
+    ghost invariant = { λ changed. AreGrouped changed.slots changed.groups changed.end };
 }
 
 impl ChangedSlots {
@@ -40,17 +42,19 @@ impl ChangedSlots {
         ChangedSlots {
             slots: [false; SLOTS_PER_FRAME],
             groups: [false; GROUPS],
+            end: 0,
         }
     }
 
     /// Adds a slot by its place.
-    pub(crate) fn add(&mut self, place: usize)
-        requires { place < 512 }
-        ensures value { self.new ≡ slice_set self.old place true }
+    pub(crate) fn add(&mut self, slot: usize)
+        requires { slot < 512 }
+        ensures value { self.new ≡ slice_set self.old slot true }
         ensures len { length self.new ≡ 512 }
     {
-        self.slots[place] = true;
-        self.groups[place / GROUP_LEN] = true;
+        self.slots[slot] = true;
+        self.groups[slot / GROUP_LEN] = true;
+        self.end = self.end.max(slot + 1);
     }
 
     /// Whether the slot at a place changed.
@@ -70,7 +74,7 @@ impl ChangedSlots {
         ensures found { result < 512 → slice_index_or self.now result false ≡ true }
     {
         let mut i = from;
-        while i < SLOTS_PER_FRAME {
+        while i < self.end {
             if !self.groups[i / GROUP_LEN] {
                 i += GROUP_LEN - i % GROUP_LEN;
             } else if self.slots[i] {

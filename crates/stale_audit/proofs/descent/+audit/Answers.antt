@@ -8,7 +8,7 @@ use Rattle.time_sets.specs.Sets.{has_time}
 use Rattle.stale_audit.specs.Findings.{IsFoundIn, IsFoundUnder, IsLeafFoundIn}
 use Rattle.stale_audit.specs.SlotEntries.{AreTablesBelow, is_in_use}
 use Rattle.stale_audit.specs.declared.tables.HeldTable.{HeldTable}
-use Rattle.stale_audit.proofs.QuietLaws.{begun, quiet-to}
+use Rattle.stale_audit.proofs.UnchangedLaws.{begun, unchanged-to}
 use Rattle.stale_audit.proofs.RangeLaws.{span-up}
 use Rattle.stale_audit.proofs.ReferenceLaws.{table-at}
 use Rattle.stale_audit.proofs.TableLaws.{first-all, if_ok-more, slot-first, table-none, table-some, under-begun, under-more}
@@ -67,9 +67,9 @@ audit_table-returns-then-is_some-clause-first g t c =
 pub audit_table-loop-i-init : goal.audit_table-loop-i-init
 audit_table-loop-i-init g t c = record {
   within = c.in_ok-i.ensures.most;
-  none = quiet-to c.args.point.now (IsTimeOf (is_in_use c.args.table.now)) c.args.range.level c.args.range.first c.args.table.now.frame 0 c.in_ok-i.i c.args.table.now.bits
+  none = unchanged-to c.args.point.now (IsTimeOf (is_in_use c.args.table.now)) c.args.range.level c.args.range.first c.args.table.now.frame 0 c.in_ok-i.i c.args.table.now.bits
       c.requires.ready c.requires.least c.requires.range.whole (omega arith) c.in_ok-i.ensures.most
-      (λ some. c.requires.walked (c.in_ok-i.ensures.present some)) c.in_ok-i.ensures.quiet
+      (λ some. c.requires.walked (c.in_ok-i.ensures.present some)) c.in_ok-i.ensures.unchanged
       (begun c.args.point.now (IsTimeOf (is_in_use c.args.table.now)) (c.args.range.level - 1) c.args.range.first (span (c.args.range.level - 1)) c.args.table.now.frame c.args.table.now.bits);
   known = c.in_ok-i.ensures.known;
 }
@@ -77,9 +77,9 @@ audit_table-loop-i-init g t c = record {
 pub audit_table-loop-i-preserved : goal.audit_table-loop-i-preserved
 audit_table-loop-i-preserved g t c = record {
   within = c.in_ok-i-2.ensures.most;
-  none = quiet-to c.args.point.now (IsTimeOf (is_in_use c.args.table.now)) c.args.range.level c.args.range.first c.args.table.now.frame (c.loop-i.i + 1) c.in_ok-i-2.i c.args.table.now.bits
+  none = unchanged-to c.args.point.now (IsTimeOf (is_in_use c.args.table.now)) c.args.range.level c.args.range.first c.args.table.now.frame (c.loop-i.i + 1) c.in_ok-i-2.i c.args.table.now.bits
       c.requires.ready c.requires.least c.requires.range.whole c.in_ok-i-2.ensures.least c.in_ok-i-2.ensures.most
-      (λ some. c.requires.walked (c.in_ok-i-2.ensures.present some)) c.in_ok-i-2.ensures.quiet
+      (λ some. c.requires.walked (c.in_ok-i-2.ensures.present some)) c.in_ok-i-2.ensures.unchanged
       (table-none c.args.point.now c.args.range.first (span (c.args.range.level - 1)) c.loop-i.i (IsTimeOf (is_in_use c.args.table.now)) (c.args.range.level - 1) c.args.table.now.frame c.args.table.now.bits
       c.in_ok-found.found c.loop-i-test.true (sym c.is_some.ensures ∙ c.if-is_some.false) c.loop-i.invariant.none
       (rw (c.slot_range-slot.ensures.level, c.slot_range-slot.ensures.first) at c.in_ok-found.ensures.first));

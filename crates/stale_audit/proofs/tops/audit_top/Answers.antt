@@ -6,7 +6,7 @@ use Rattle.stale_audit.specs.Facts.{Facts}
 use Rattle.stale_audit.specs.SlotEntries.{is_in_use}
 use Rattle.stale_audit.specs.SteadyTables.{HadOneNxe}
 use Rattle.stale_audit.specs.Tops.{IsFoundBefore, top_first}
-use Rattle.stale_audit.proofs.QuietLaws.{quiet-root-to}
+use Rattle.stale_audit.proofs.UnchangedLaws.{unchanged-root-to}
 use Rattle.stale_audit.proofs.TopLaws.{from-all, top-begun, top-done, top-none, top-room, top-some}
 use Rattle.stale_audit.proofs.tops.audit_top.Goals as goal
 
@@ -23,10 +23,10 @@ loop-i-init g c =
     subst (λ (f : Facts). c.top_level-level.result ≡ top_level f.settings) c.point.view_is c.top_level-level.ensures.value in
     record {
       within = c.in_ok-i.ensures.most;
-      none = quiet-root-to c.args.point.now (IsTimeOf (is_in_use c.in_ok-table.table)) c.top_level-level.result c.in_ok-table.table.frame c.args.root 0 c.in_ok-i.i
+      none = unchanged-root-to c.args.point.now (IsTimeOf (is_in_use c.in_ok-table.table)) c.top_level-level.result c.in_ok-table.table.frame c.args.root 0 c.in_ok-i.i
           c.requires.ready top c.top_level-level.ensures.least c.top_level-level.ensures.most c.in_ok-table.ensures.frame (omega arith) c.in_ok-i.ensures.most
           (λ some. let present = c.in_ok-i.ensures.present some in let one : HadOneNxe c.args.point.now = search rules in let home : c.args.root ≡ c.args.point.now.home = search rules in (one, home))
-          c.in_ok-i.ensures.quiet (top-begun c.args.point.now (IsTimeOf (is_in_use c.in_ok-table.table)) (top_level c.args.point.now.settings) c.args.root);
+          c.in_ok-i.ensures.unchanged (top-begun c.args.point.now (IsTimeOf (is_in_use c.in_ok-table.table)) (top_level c.args.point.now.settings) c.args.root);
       known = c.in_ok-i.ensures.known;
     }
 
@@ -36,10 +36,10 @@ loop-i-preserved g c =
     subst (λ (f : Facts). c.top_level-level.result ≡ top_level f.settings) c.point.view_is c.top_level-level.ensures.value in
     record {
       within = c.in_ok-i-2.ensures.most;
-      none = quiet-root-to c.args.point.now (IsTimeOf (is_in_use c.in_ok-table.table)) c.top_level-level.result c.in_ok-table.table.frame c.args.root (c.loop-i.i + 1) c.in_ok-i-2.i
+      none = unchanged-root-to c.args.point.now (IsTimeOf (is_in_use c.in_ok-table.table)) c.top_level-level.result c.in_ok-table.table.frame c.args.root (c.loop-i.i + 1) c.in_ok-i-2.i
           c.requires.ready top c.top_level-level.ensures.least c.top_level-level.ensures.most c.in_ok-table.ensures.frame c.in_ok-i-2.ensures.least c.in_ok-i-2.ensures.most
           (λ some. let present = c.in_ok-i-2.ensures.present some in let one : HadOneNxe c.args.point.now = search rules in let home : c.args.root ≡ c.args.point.now.home = search rules in (one, home))
-          c.in_ok-i-2.ensures.quiet
+          c.in_ok-i-2.ensures.unchanged
           (top-none c.args.point.now (IsTimeOf (is_in_use c.in_ok-table.table)) (top_level c.args.point.now.settings) c.args.root (top-room c.args.point.now.settings) c.loop-i.i c.loop-i-test.true
           c.in_ok-found.found (sym c.is_some.ensures ∙ c.if-is_some.false) c.loop-i.invariant.none
           (rw (c.top_range-slot.ensures.level, c.top_range-slot.ensures.first, c.in_ok-table.ensures.bits, c.in_ok-table.ensures.frame) at c.in_ok-found.ensures.first));

@@ -1,4 +1,4 @@
-use Rattle.std.proofs.Common.{false}
+use Rattle.std.proofs.Common.{arith, false}
 use Rattle.std.proofs.lemmas.List.{get_or-replicate, length-replicate}
 use Rattle.version_store.proofs.changed_slots.ChangedSlots.none.Goals as goal
 
@@ -7,6 +7,8 @@ invariant_of-result c = record {
   slots_len = length-replicate 512 false;
   groups_len = length-replicate 32 false;
   unchanged = λ i below none. get_or-replicate 512 i false false below;
+  within = omega arith;
+  after = λ i below end. get_or-replicate 512 i false false below;
 }
 
 pub returns-clause-value : goal.returns-clause-value

@@ -36,12 +36,12 @@ index-in s base i x whole slot low high =
     let number : x / s ≡ q * 512 + i = ap (λ n. n / s) x_is ∙ div-mul-add (q * 512 + i) s r (omega (arith, low, high)) in
     ap (λ n. n % 512) number ∙ omega (arith, slot)
 
--- of a quiet slot, which serves these addresses, nothing is found
-quiet-in : (facts : Facts) (InUse : ℕ → Type 0) (level first table i : ℕ) (bits : Bits) → AreTimely facts → 1 ≤ level
+-- of an unchanged slot, which serves these addresses, nothing is found
+unchanged-in : (facts : Facts) (InUse : ℕ → Type 0) (level first table i : ℕ) (bits : Bits) → AreTimely facts → 1 ≤ level
     → ((x : ℕ) → first ≤ x → x < first + span level → index level x ≡ i)
     → IsWalkedTo facts first (first + span level) level table bits → IsSteadyPlace facts level (table + 8 * i)
     → IsFirst (IsFoundIn facts first (first + span level) InUse level table bits) None
-quiet-in facts InUse level first table i bits ready least serves walked steady one found =
+unchanged-in facts InUse level first table i bits ready least serves walked steady one found =
     let x = one.page in
     let place : table + 8 * i ≡ entry_address level x table = ap (λ n. table + 8 * n) (sym (serves x found.page.least found.page.below)) in
     led-by-walk facts InUse first (first + span level) level table bits one found
@@ -49,13 +49,13 @@ quiet-in facts InUse level first table i bits ready least serves walked steady o
     ∙ place-leads facts ready walked.one_nxe x InUse level table bits found.k found.held least (subst (IsSteadyPlace facts level) place steady) found.leads)
 
 -- of a table; the level is that of the entry that references it
-quiet-place : (facts : Facts) (InUse : ℕ → Type 0) (level first table i : ℕ) (bits : Bits) → AreTimely facts → 2 ≤ level → first % span level ≡ 0 → i < 512
+unchanged-place : (facts : Facts) (InUse : ℕ → Type 0) (level first table i : ℕ) (bits : Bits) → AreTimely facts → 2 ≤ level → first % span level ≡ 0 → i < 512
     → IsWalkedTo facts first (first + span level) (level - 1) table bits → IsSteadyPlace facts (level - 1) (table + 8 * i)
     → IsFirst (IsFoundIn facts (first + i * span (level - 1)) (first + i * span (level - 1) + span (level - 1)) InUse (level - 1) table bits) None
-quiet-place facts InUse level first table i bits ready least whole slot walked steady =
+unchanged-place facts InUse level first table i bits ready least whole slot walked steady =
     let within = slot-within level first i least slot in
     let up = span-up level least in
-    quiet-in facts InUse (level - 1) (first + i * span (level - 1)) table i bits ready (omega arith)
+    unchanged-in facts InUse (level - 1) (first + i * span (level - 1)) table i bits ready (omega arith)
     (λ x low high. index-in (span (level - 1)) first i x (ap (λ n. first % n) up ∙ whole) slot low high)
     (record {
       one_nxe = walked.one_nxe;
@@ -75,35 +75,35 @@ up-to-next P from i before here k low high = by_test (nat_lt k i) refl
 pub begun : (facts : Facts) (InUse : ℕ → Type 0) (level first s table : ℕ) (bits : Bits) → IsFirst (IsFoundIn facts first (first + 0 * s) InUse level table bits) None
 begun facts InUse level first s table bits one found = let low = found.page.least in let high = found.page.below in absurd (omega (arith, low, high))
 
--- where the slots from i on are quiet, up to so many, no more is found up to there than before i
-quiet-run : (facts : Facts) (InUse : ℕ → Type 0) (level first table i : ℕ) (bits : Bits) → AreTimely facts → 2 ≤ level → first % span level ≡ 0
+-- where the slots from i on are unchanged, up to so many, no more is found up to there than before i
+unchanged-run : (facts : Facts) (InUse : ℕ → Type 0) (level first table i : ℕ) (bits : Bits) → AreTimely facts → 2 ≤ level → first % span level ≡ 0
     → (d : ℕ) → i + d ≤ 512 → (0 < d → IsWalkedTo facts first (first + span level) (level - 1) table bits)
     → ((k : ℕ) → i ≤ k → k < i + d → IsSteadyPlace facts (level - 1) (table + 8 * k))
     → IsFirst (IsFoundIn facts first (first + i * span (level - 1)) InUse (level - 1) table bits) None
     → IsFirst (IsFoundIn facts first (first + (i + d) * span (level - 1)) InUse (level - 1) table bits) None
-quiet-run facts InUse level first table i bits ready least whole zero within walked quiet none =
+unchanged-run facts InUse level first table i bits ready least whole zero within walked unchanged none =
     let is : i ≡ i + 0 = omega arith in
     subst (λ n. IsFirst (IsFoundIn facts first (first + n * span (level - 1)) InUse (level - 1) table bits) None) is none
-quiet-run facts InUse level first table i bits ready least whole (suc d) within walked quiet none =
+unchanged-run facts InUse level first table i bits ready least whole (suc d) within walked unchanged none =
     let here : i + d < 512 = omega (arith, within) in
     let is : i + d + 1 ≡ i + suc d = omega arith in
     subst (λ n. IsFirst (IsFoundIn facts first (first + n * span (level - 1)) InUse (level - 1) table bits) None) is
     (table-none facts first (span (level - 1)) (i + d) InUse (level - 1) table bits None here refl
-    (quiet-run facts InUse level first table i bits ready least whole d (omega (arith, within)) (λ some. walked (omega arith))
-    (λ k low high. quiet k low (omega (arith, high))) none)
-    (quiet-place facts InUse level first table (i + d) bits ready least whole here (walked (omega arith)) (quiet (i + d) (omega arith) (omega arith))))
+    (unchanged-run facts InUse level first table i bits ready least whole d (omega (arith, within)) (λ some. walked (omega arith))
+    (λ k low high. unchanged k low (omega (arith, high))) none)
+    (unchanged-place facts InUse level first table (i + d) bits ready least whole here (walked (omega arith)) (unchanged (i + d) (omega arith) (omega arith))))
 
 -- up to j
-pub quiet-to : (facts : Facts) (InUse : ℕ → Type 0) (level first table i j : ℕ) (bits : Bits) → AreTimely facts → 2 ≤ level → first % span level ≡ 0
+pub unchanged-to : (facts : Facts) (InUse : ℕ → Type 0) (level first table i j : ℕ) (bits : Bits) → AreTimely facts → 2 ≤ level → first % span level ≡ 0
     → i ≤ j → j ≤ 512 → (i < j → IsWalkedTo facts first (first + span level) (level - 1) table bits)
     → ((k : ℕ) → i ≤ k → k < j → IsSteadyPlace facts (level - 1) (table + 8 * k))
     → IsFirst (IsFoundIn facts first (first + i * span (level - 1)) InUse (level - 1) table bits) None
     → IsFirst (IsFoundIn facts first (first + j * span (level - 1)) InUse (level - 1) table bits) None
-quiet-to facts InUse level first table i j bits ready least whole up within walked quiet none =
+unchanged-to facts InUse level first table i j bits ready least whole up within walked unchanged none =
     let is : i + (j - i) ≡ j = omega (arith, up) in
     subst (λ n. IsFirst (IsFoundIn facts first (first + n * span (level - 1)) InUse (level - 1) table bits) None) is
-    (quiet-run facts InUse level first table i bits ready least whole (j - i) (omega (arith, is, within)) (λ some. walked (omega (arith, some)))
-    (λ k low high. quiet k low (omega (arith, is, high))) none)
+    (unchanged-run facts InUse level first table i bits ready least whole (j - i) (omega (arith, is, within)) (λ some. walked (omega (arith, some)))
+    (λ k low high. unchanged k low (omega (arith, is, high))) none)
 
 -- a table that the present tables reference
 pub walked-below : (facts : Facts) (range : PresentRange) (table : ℕ) (bits : Bits) → HadOneNxe facts → IsOfHome facts range → range.there ≡ there.Table table bits
@@ -143,11 +143,11 @@ top-index level i x least most slot low high = by_test (nat_lt i 256) refl
         index-in (span level) (2 ^ 64 - 512 * span level) i x upper slot (omega (arith, first, low)) (omega (arith, first, high))
 
 -- of the present root
-quiet-top : (facts : Facts) (InUse : ℕ → Type 0) (level table i : ℕ) → AreTimely facts → level ≡ top_level facts.settings → 4 ≤ level → level ≤ 5 → i < 512
+unchanged-top : (facts : Facts) (InUse : ℕ → Type 0) (level table i : ℕ) → AreTimely facts → level ≡ top_level facts.settings → 4 ≤ level → level ≤ 5 → i < 512
     → HadOneNxe facts → table ≡ facts.home → IsSteadyPlace facts level (table + 8 * i)
     → IsFirst (IsFoundIn facts (top_first level i) (top_first level i + span level) InUse level table root_bits) None
-quiet-top facts InUse level table i ready top least most slot one_nxe home steady =
-    quiet-in facts InUse level (top_first level i) table i root_bits ready (omega (arith, least)) (λ x low high. top-index level i x least most slot low high)
+unchanged-top facts InUse level table i ready top least most slot one_nxe home steady =
+    unchanged-in facts InUse level (top_first level i) table i root_bits ready (omega (arith, least)) (λ x low high. top-index level i x least most slot low high)
     (record {
       one_nxe = one_nxe;
       walks = λ x low high aligned. walk-is facts x
@@ -161,39 +161,39 @@ top-run : (facts : Facts) (InUse : ℕ → Type 0) (level table i : ℕ) → Are
     → ((k : ℕ) → i ≤ k → k < i + d → IsSteadyPlace facts level (table + 8 * k))
     → IsFirst (IsFoundBefore facts InUse level table (top_first level i)) None
     → IsFirst (IsFoundBefore facts InUse level table (top_first level (i + d))) None
-top-run facts InUse level table i ready top least most zero within present quiet none =
+top-run facts InUse level table i ready top least most zero within present unchanged none =
     let is : i ≡ i + 0 = omega arith in
     subst (λ n. IsFirst (IsFoundBefore facts InUse level table (top_first level n)) None) is none
-top-run facts InUse level table i ready top least most (suc d) within present quiet none =
+top-run facts InUse level table i ready top least most (suc d) within present unchanged none =
     let here : i + d < 512 = omega (arith, within) in
     let is : i + d + 1 ≡ i + suc d = omega arith in
     let now = present (omega arith) in
     subst (λ n. IsFirst (IsFoundBefore facts InUse level table (top_first level n)) None) is
     (top-none facts InUse level table (room-is level least most) (i + d) here None refl
     (top-run facts InUse level table i ready top least most d (omega (arith, within)) (λ some. present (omega arith))
-    (λ k low high. quiet k low (omega (arith, high))) none)
-    (quiet-top facts InUse level table (i + d) ready top least most here now.0 now.1 (quiet (i + d) (omega arith) (omega arith))))
+    (λ k low high. unchanged k low (omega (arith, high))) none)
+    (unchanged-top facts InUse level table (i + d) ready top least most here now.0 now.1 (unchanged (i + d) (omega arith) (omega arith))))
 
--- where the slots of the present root from i on are quiet, up to j, no more is found up to there than before i
-quiet-top-to : (facts : Facts) (InUse : ℕ → Type 0) (level table i j : ℕ) → AreTimely facts → level ≡ top_level facts.settings → 4 ≤ level → level ≤ 5
+-- where the slots of the present root from i on are unchanged, up to j, no more is found up to there than before i
+unchanged-top-to : (facts : Facts) (InUse : ℕ → Type 0) (level table i j : ℕ) → AreTimely facts → level ≡ top_level facts.settings → 4 ≤ level → level ≤ 5
     → i ≤ j → j ≤ 512 → (i < j → HadOneNxe facts × (table ≡ facts.home))
     → ((k : ℕ) → i ≤ k → k < j → IsSteadyPlace facts level (table + 8 * k))
     → IsFirst (IsFoundBefore facts InUse level table (top_first level i)) None
     → IsFirst (IsFoundBefore facts InUse level table (top_first level j)) None
-quiet-top-to facts InUse level table i j ready top least most up within present quiet none =
+unchanged-top-to facts InUse level table i j ready top least most up within present unchanged none =
     let is : i + (j - i) ≡ j = omega (arith, up) in
     subst (λ n. IsFirst (IsFoundBefore facts InUse level table (top_first level n)) None) is
     (top-run facts InUse level table i ready top least most (j - i) (omega (arith, is, within)) (λ some. present (omega (arith, some)))
-    (λ k low high. quiet k low (omega (arith, is, high))) none)
+    (λ k low high. unchanged k low (omega (arith, is, high))) none)
 
 -- the same of the table of the top level at a root
-pub quiet-root-to : (facts : Facts) (InUse : ℕ → Type 0) (level table root i j : ℕ) → AreTimely facts → level ≡ top_level facts.settings → 4 ≤ level → level ≤ 5
+pub unchanged-root-to : (facts : Facts) (InUse : ℕ → Type 0) (level table root i j : ℕ) → AreTimely facts → level ≡ top_level facts.settings → 4 ≤ level → level ≤ 5
     → table ≡ root → i ≤ j → j ≤ 512 → (i < j → HadOneNxe facts × (root ≡ facts.home))
     → ((k : ℕ) → i ≤ k → k < j → IsSteadyPlace facts level (table + 8 * k))
     → IsFirst (IsFoundBefore facts InUse (top_level facts.settings) root (top_first (top_level facts.settings) i)) None
     → IsFirst (IsFoundBefore facts InUse (top_level facts.settings) root (top_first (top_level facts.settings) j)) None
-quiet-root-to facts InUse level table root i j ready top least most at up within present quiet none =
+unchanged-root-to facts InUse level table root i j ready top least most at up within present unchanged none =
     subst (λ n. IsFirst (IsFoundBefore facts InUse n root (top_first n j)) None) top
-    (quiet-top-to facts InUse level root i j ready top least most up within present
-    (subst (λ r. (k : ℕ) → i ≤ k → k < j → IsSteadyPlace facts level (r + 8 * k)) at quiet)
+    (unchanged-top-to facts InUse level root i j ready top least most up within present
+    (subst (λ r. (k : ℕ) → i ≤ k → k < j → IsSteadyPlace facts level (r + 8 * k)) at unchanged)
     (subst (λ n. IsFirst (IsFoundBefore facts InUse n root (top_first n i)) None) (sym top) none))

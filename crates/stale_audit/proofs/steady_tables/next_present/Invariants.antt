@@ -1,0 +1,11 @@
+use Rattle.std.proofs.Common.{ℕ, ◌+◌, ◌*◌, ◌<◌, ◌≤◌}
+use Rattle.paging_model.specs.Memory.{entry_at}
+use Rattle.phys_view.specs.Seen.{memory_of}
+use Rattle.stale_audit.specs.SteadyTables.{IsAbsent}
+use Rattle.stale_audit.proofs.steady_tables.next_present.Given as goal
+
+-- the entries before i are absent
+abbrev pub invariant-loop-i : goal.invariant-loop-i
+invariant-loop-i g l = record {
+  absent : (k : ℕ) → l.fn.from ≤ k → k < l.i → IsAbsent (entry_at (memory_of l.entries.seen) (l.entries.at + 8 * k));
+}
