@@ -76,7 +76,7 @@ region-skipped (one ∷ rest) (suc n) x within before =
 pub parts-at : (items : List Region) (n : ℕ) → stretches items ≡ stretches (take n items) ++ stretches (drop n items)
 parts-at items n = ap stretches (sym (take-append-drop n items)) ∙ map-append stretch_of_region (take n items) (drop n items)
 
-drop-coalesced : (items : List Region) (n : ℕ) → AreCoalesced (stretches items) → AreCoalesced (stretches (drop n items))
+pub drop-coalesced : (items : List Region) (n : ℕ) → AreCoalesced (stretches items) → AreCoalesced (stretches (drop n items))
 drop-coalesced items n coalesced =
     AreCoalesced-rest (stretches (take n items)) (stretches (drop n items))
     (subst (λ (it : List (Stretch Protection)). AreCoalesced it) (parts-at items n) coalesced)

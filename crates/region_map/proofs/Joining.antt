@@ -29,7 +29,7 @@ module _ {Kind : Type 0} where
       → (if is then Some target else p) ≡ (if is then Some target else q)
   chosen is target p q same = ap (λ (other : Option (Target Kind)). if is then Some target else other) same
 
-  target_in-append_same : (before one other : List (Stretch Kind)) (x : ℕ) → target_in one x ≡ target_in other x
+  pub target_in-append_same : (before one other : List (Stretch Kind)) (x : ℕ) → target_in one x ≡ target_in other x
       → target_in (before ++ one) x ≡ target_in (before ++ other) x
   target_in-append_same [] one other x same = same
   target_in-append_same (it ∷ before) one other x same =
@@ -41,7 +41,7 @@ module _ {Kind : Type 0} where
   not_chosen true target other none = absurd cc
   not_chosen false target other none = (refl, none)
 
-  target_in-append : (before after : List (Stretch Kind)) (x : ℕ) → target_in (before ++ after) x ≡ None
+  pub target_in-append : (before after : List (Stretch Kind)) (x : ℕ) → target_in (before ++ after) x ≡ None
       → (target_in before x ≡ None) × ((other : List (Stretch Kind)) → target_in (before ++ other) x ≡ target_in other x)
   target_in-append [] after x none = (refl, λ other. refl)
   target_in-append (it ∷ before) after x none =
@@ -110,13 +110,13 @@ module _ {Kind : Type 0} where
   ]
 
   -- parts of lists
-  ArePageRanges-split : (before after : List (Stretch Kind)) → ArePageRanges (before ++ after) → ArePageRanges before × ArePageRanges after
+  pub ArePageRanges-split : (before after : List (Stretch Kind)) → ArePageRanges (before ++ after) → ArePageRanges before × ArePageRanges after
   ArePageRanges-split [] after ranges = (tt, ranges)
   ArePageRanges-split (it ∷ before) after ranges =
       let parts = ArePageRanges-split before after ranges.1 in
       ((ranges.0, parts.0), parts.1)
 
-  ArePageRanges-append : (before after : List (Stretch Kind)) → ArePageRanges before → ArePageRanges after → ArePageRanges (before ++ after)
+  pub ArePageRanges-append : (before after : List (Stretch Kind)) → ArePageRanges before → ArePageRanges after → ArePageRanges (before ++ after)
   ArePageRanges-append [] after ranges more = more
   ArePageRanges-append (it ∷ before) after ranges more = (ranges.0, ArePageRanges-append before after ranges.1 more)
 

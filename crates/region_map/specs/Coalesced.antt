@@ -38,6 +38,22 @@ module _ {Kind : Type 0} where
     pub inside : (x : ℕ) → stretch.first ≤ x → x ≤ stretch.last → new x ≡ Some (range_target stretch x)
     pub outside : (x : ℕ) → ((x < stretch.first) ⊎ (stretch.last < x)) → new x ≡ old x
 
+  -- the new map maps no address from the first to the last, and all others as before
+  pub record IsCleared (first last : ℕ) (old new : ℕ → Option (Target Kind)) : Type 0 where
+    pub inside : (x : ℕ) → first ≤ x → x ≤ last → new x ≡ None
+    pub outside : (x : ℕ) → ((x < first) ⊎ (last < x)) → new x ≡ old x
+
+  -- the new map maps the addresses from the first to the last as another does, and all others as before
+  pub record IsCopied (first last : ℕ) (other old new : ℕ → Option (Target Kind)) : Type 0 where
+    pub inside : (x : ℕ) → first ≤ x → x ≤ last → new x ≡ other x
+    pub outside : (x : ℕ) → ((x < first) ⊎ (last < x)) → new x ≡ old x
+
+-- the first byte of a page and the last byte of one that doesn't stand before it
+pub record AreWholePages (first last : ℕ) : Type 0 where
+  pub begins : first % 4096 ≡ 0
+  pub ends : last % 4096 ≡ 4095
+  pub order : first < last
+
 -- regions as ranges of pages
 abbrev pub stretches : List Region → List (Stretch Protection)
 stretches regions = map stretch_of_region regions

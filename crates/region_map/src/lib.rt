@@ -2,7 +2,10 @@
 #![tactic(auto)]
 
 mod adding;
+mod copying;
+mod edits;
 mod places;
+mod putting;
 mod regions;
 
 pub use regions::Regions;

@@ -13,7 +13,7 @@ use std::marker::Model;
 /// The mapped ranges of a space, by ascending addresses. No two neighbours make one.
 #[derive(Debug, Drop)]
 pub struct Regions {
-    items: Vec<Region>,
+    pub(crate) items: Vec<Region>,
 }
 
 impl Model for Regions {

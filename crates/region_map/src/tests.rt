@@ -10,6 +10,8 @@ use paging_model::spaces::Region;
 use std::alloc::{AllocError, Global};
 use std::test::Fail;
 
+mod edits;
+
 const ALL: Bits = Bits {
     write: true,
     user: true,
