@@ -1,6 +1,7 @@
 -- The entries that a slot made over time, and the times at which its table was in use.
-use Rattle.std.proofs.Common.{◌≡◌, ℕ, zero, suc, ◌+◌, ◌<◌, ◌≤◌, ◌||◌, ◌⊎◌, inl, inr, Bool, true, false, List, [], ◌∷◌, length, get_or, Option, Some, None, refl, sym, ap, ◌∙◌, arith}
+use Rattle.std.proofs.Common.{◌≡◌, ℕ, zero, suc, ◌+◌, ◌<◌, ◌≤◌, ◌||◌, ◌⊎◌, inl, inr, Bool, true, false, List, [], ◌∷◌, length, get_or, Option, Some, None, refl, sym, ap, ◌∙◌, subst, arith}
 use Rattle.std.specs.Prelude.{◌↔◌, if◌then◌else◌}
+use Rattle.std.proofs.lemmas.Bool.{cases_lt}
 use Rattle.paging_model.specs.Memory.{entry_at}
 use Rattle.paging_model.specs.Entries.{entry_of}
 use Rattle.paging_model.specs.Registers.{pge}
@@ -12,12 +13,13 @@ use Rattle.past_entries.specs.PastEntries.{AllFitLevel, WasMade}
 use Rattle.past_entries.specs.ValueSpans.{AreInOrder, SpansMake, ValueMakes}
 use Rattle.past_entries.specs.declared.entries.PastEntry.{PastEntry}
 use Rattle.past_entries.specs.declared.fills.Fill.{Fill}
+use Rattle.past_entries.proofs.EntryLaws.{any-default}
 use Rattle.past_entries.proofs.SpanLaws.{spans-value, value-spans}
 use Rattle.time_sets.specs.Sets.{has_time}
 use Rattle.version_store.specs.Changes.{value_at}
 use Rattle.version_store.specs.Spanning.{AreSpans, IsSpan}
 use Rattle.stale_audit.specs.Facts.{Facts, AreTimely, made_in_pcid, made_of_value, made_with, settings_with}
-use Rattle.stale_audit.specs.SlotEntries.{IsMadeWith, IsTimed, is_in_use}
+use Rattle.stale_audit.specs.SlotEntries.{AllHarmless, IsHarmless, IsMadeInUse, MakesHarmless, IsMadeWith, IsTimed}
 use Rattle.stale_audit.specs.declared.timed_tables.TimedTable.{TimedTable}
 
 pub clash : (b : Bool) → b ≡ true → b ≡ false → ⊥
@@ -118,11 +120,6 @@ unknown-made facts nxe times level address above held t none = (
     not-made : ◌≡◌ {A = Option Held} None (Some held) → ⊥
     not-made h = absurd (cc)
 
--- made at a time of use, with NXE as it was
-pub record IsMadeInUse (facts : Facts) (table : TimedTable) (level address : ℕ) (above : Bits) (held : Held) (t : ℕ) : Type 0 where
-  pub in_use : is_in_use table t ≡ true
-  pub is_made : made_in_pcid facts level address above t ≡ Some held
-
 module _ (facts : Facts) (table : TimedTable) (level address : ℕ) (above : Bits) (ready : AreTimely facts) (timed : IsTimed facts table) where
   pub with-in_use : (held : Held) (t : ℕ)
       → IsMadeWith facts false table.nxe_clear level address above held t ⊎ IsMadeWith facts true table.nxe_set level address above held t
@@ -184,3 +181,48 @@ pub until-at : (entries : List PastEntry) (i : ℕ) (one : PastEntry) (end : ℕ
 until-at entries i one end h is until t in_times =
     until (held_of_fill (get_or entries i one).fill) t
     (made-at entries i one t h (ap (λ (entry : PastEntry). has_time entry.times t) (sym is) ∙ in_times))
+
+-- what is made of spans of values that make nothing but what is harmless
+module _ (facts : Facts) (level first : ℕ) (makes : ℕ → Option Held) where
+  pub spans-harmless : (at : List (ℕ × ℕ)) (held : Held) (t : ℕ) (spans : List (ℕ × ℕ × ℕ)) → AllHarmless facts level first makes spans
+      → SpansMake makes at spans held t → IsHarmless facts level first held
+  spans-harmless at held t [] all made = absurd made
+  spans-harmless at held t (span ∷ rest) all (inl made) = all 0 span (omega arith) held made.0
+  spans-harmless at held t (span ∷ rest) all (inr made) = spans-harmless at held t rest (λ k d h. all (suc k) d (omega arith)) made
+
+  -- one value more
+  pub all-more : (spans : List (ℕ × ℕ × ℕ)) (i : ℕ) (e : ℕ × ℕ × ℕ) → i < length spans
+      → ((k : ℕ) (d : ℕ × ℕ × ℕ) → k < i → MakesHarmless facts level first makes (get_or spans k d).2)
+      → MakesHarmless facts level first makes (get_or spans i e).2
+      → (k : ℕ) (d : ℕ × ℕ × ℕ) → k < i + 1 → MakesHarmless facts level first makes (get_or spans k d).2
+  all-more spans i e within so_far next k d h = elim (cases_lt k i) [
+    | inl before ↦ so_far k d before
+    | inr later ↦
+        let same : i ≡ k = omega (arith, h, later) in
+        subst (λ n. MakesHarmless facts level first makes (get_or spans n d).2) same
+        (subst (λ (one : ℕ × ℕ × ℕ). MakesHarmless facts level first makes one.2) (any-default spans i e d within) next)
+  ]
+
+-- without times nothing is made
+pub no-times-make : (makes : ℕ → Option Held) (at : List (ℕ × ℕ)) (held : Held) (t : ℕ) (spans : List (ℕ × ℕ × ℕ))
+    → ((u : ℕ) → has_time at u ≡ false) → SpansMake makes at spans held t → ⊥
+no-times-make makes at held t [] none made = absurd made
+no-times-make makes at held t (span ∷ rest) none (inl made) = clash (has_time at t) made.3 (none t)
+no-times-make makes at held t (span ∷ rest) none (inr made) = no-times-make makes at held t rest none made
+
+-- what a slot makes of its values at the times of its table, where that is harmless with NXE 0 and with NXE 1
+module _ (facts : Facts) (table : TimedTable) (level first address present : ℕ) (above : Bits) (ready : AreTimely facts)
+    (timed : IsTimed facts table) (is_present : entry_at (memory_of facts.seen) address ≡ Some present) where
+  pub slot-harmless : (spans : List (ℕ × ℕ × ℕ))
+      → AreSpans (value_at facts.kept address present) None facts.host.horizon (facts.end + 1) spans
+      → ((held : Held) (t : ℕ) → SpansMake (λ value. held_of (pge facts.host.regs) above
+      (entry_of level (settings_with false facts.settings) value)) table.nxe_clear spans held t → IsHarmless facts level first held)
+      → ((held : Held) (t : ℕ) → SpansMake (λ value. held_of (pge facts.host.regs) above
+      (entry_of level (settings_with true facts.settings) value)) table.nxe_set spans held t → IsHarmless facts level first held)
+      → (held : Held) (t : ℕ) → IsMadeInUse facts table level address above held t → IsHarmless facts level first held
+  slot-harmless spans are clear set held t made = elim (in_use-with facts table level address above ready timed held t made) [
+    | inl a ↦ clear held t ((spans-make facts false table.nxe_clear level address present above is_present
+        (λ u is. ready.clear_since u (timed.clear u is)) (λ u is. ready.clear_until u (timed.clear u is)) spans held t are).1 a)
+    | inr b ↦ set held t ((spans-make facts true table.nxe_set level address present above is_present
+        (λ u is. ready.set_since u (timed.set u is)) (λ u is. ready.set_until u (timed.set u is)) spans held t are).1 b)
+  ]

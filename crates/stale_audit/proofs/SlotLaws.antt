@@ -21,11 +21,11 @@ use Rattle.present_pages.specs.StalePages.{IsPageIn}
 use Rattle.present_pages.proofs.Slots.{same-quotient}
 use Rattle.stale_audit.specs.Facts.{Facts, AreTimely, IsStaleBy, made_in_pcid, makes_of, takes_of}
 use Rattle.stale_audit.specs.Findings.{IsLeafFoundIn, IsListedAt, IsReferenced, IsSlot}
-use Rattle.stale_audit.specs.SlotEntries.{IsLeafOfSome, IsMadeWith, IsReferenceOfSome, IsTimed, is_in_use}
+use Rattle.stale_audit.specs.SlotEntries.{IsHarmless, IsLeafOfSome, IsMadeInUse, IsMadeWith, IsReferenceOfSome, IsTimed, is_in_use}
 use Rattle.stale_audit.specs.declared.tables.HeldTable.{HeldTable}
 use Rattle.stale_audit.specs.declared.slots.SlotFindings.{SlotFindings}
 use Rattle.stale_audit.specs.declared.timed_tables.TimedTable.{TimedTable}
-use Rattle.stale_audit.proofs.EntryLaws.{IsMadeInUse, in_use-with, unknown-made, with-in_use}
+use Rattle.stale_audit.proofs.EntryLaws.{clash, in_use-with, unknown-made, with-in_use}
 
 -- not taken from a time on up to another, for the first address that the slot serves
 abbrev IsSparedAt : Facts → ℕ → ℕ → Held → ℕ → ℕ → Type 0
@@ -129,23 +129,11 @@ module _ (facts : Facts) (level first : ℕ) where
   made-reference (entry ∷ entries) frame joined u held t r f b order within spared (inr m) =
       inr (made-reference entries frame joined u held t r f b order within spared m)
 
--- a slot of a table: the entries that it made with NXE 0 and with NXE 1
-module _ (facts : Facts) (table : TimedTable) (level first address : ℕ) (clear set : List PastEntry) (ready : AreTimely facts)
-    (timed : IsTimed facts table) (whole : first % span level ≡ 0) (address_is : address ≡ entry_address level first table.frame)
-    (made_clear : (held : Held) (t : ℕ) → WasMade clear held t ↔ IsMadeWith facts false table.nxe_clear level address table.bits held t)
-    (made_set : (held : Held) (t : ℕ) → WasMade set held t ↔ IsMadeWith facts true table.nxe_set level address table.bits held t) where
+-- a slot of a table
+module _ (facts : Facts) (table : TimedTable) (level first address : ℕ) (ready : AreTimely facts) (timed : IsTimed facts table)
+    (whole : first % span level ≡ 0) (address_is : address ≡ entry_address level first table.frame) where
   abbrev Use : ℕ → Type 0
   Use = IsTimeOf (is_in_use table)
-
-  some-used : (held : Held) (t : ℕ) → WasMade clear held t ⊎ WasMade set held t → IsMadeInUse facts table level address table.bits held t
-  some-used held t h = with-in_use facts table level address table.bits ready timed held t
-      (elim h [ inl a ↦ inl ((made_clear held t).0 a) | inr b ↦ inr ((made_set held t).0 b) ])
-
-  used-some : (held : Held) (t : ℕ) → IsMadeInUse facts table level address table.bits held t → WasMade clear held t ⊎ WasMade set held t
-  used-some held t h = elim (in_use-with facts table level address table.bits ready timed held t h) [
-    | inl a ↦ inl ((made_clear held t).1 a)
-    | inr b ↦ inr ((made_set held t).1 b)
-  ]
 
   -- all addresses that the slot serves have its address and its key
   quotient : (x : ℕ) → first ≤ x → x < first + span level → x / span level ≡ first / span level
@@ -187,81 +175,111 @@ module _ (facts : Facts) (table : TimedTable) (level first address : ℕ) (clear
   abbrev Leaf : StalePage → Type 0
   Leaf one = IsLeafFoundIn facts first (first + span level) Use level table.frame table.bits one
 
-  made-found : (Made : Held → ℕ → Type 0) → ((held : Held) (t : ℕ) → Made held t → WasMade clear held t ⊎ WasMade set held t)
-      → (one : StalePage) → IsLeafMade facts level first Made one → Leaf one
-  made-found Made some one r = record {
-    page = r.page;
-    held = r.held;
-    leaf = r.leaf;
-    kept = used-kept one.page facts.end r.t r.held r.page.least r.page.below r.order (omega arith) r.spared
-        (some-used r.held r.t (some r.held r.t r.is_made));
-    stale = r.stale;
-  }
-
-  leaf-found : (one : StalePage) → IsLeafOfSome facts level first clear one ⊎ IsLeafOfSome facts level first set one → Leaf one
-  leaf-found one (inl h) = made-found (WasMade clear) (λ held t m. inl m) one (leaf-made facts level first clear one h)
-  leaf-found one (inr h) = made-found (WasMade set) (λ held t m. inr m) one (leaf-made facts level first set one h)
-
-  found-leaf : (one : StalePage) → Leaf one → IsLeafOfSome facts level first clear one ⊎ IsLeafOfSome facts level first set one
-  found-leaf one f =
-      let spared = kept-spared one.page facts.end f.held f.page.least f.page.below f.kept in
-      elim (used-some f.held f.kept.t (kept-used one.page facts.end f.held f.page.least f.page.below f.kept)) [
-        | inl a ↦ inl (made-leaf facts level first clear one f.page f.held f.kept.t f.leaf f.kept.order spared f.stale a)
-        | inr b ↦ inr (made-leaf facts level first set one f.page f.held f.kept.t f.leaf f.kept.order spared f.stale b)
-      ]
-
-  made-referenced : (Made : Held → ℕ → Type 0) → ((held : Held) (t : ℕ) → Made held t → WasMade clear held t ⊎ WasMade set held t)
-      → (x frame : ℕ) (joined : Bits) (u : ℕ) → first ≤ x → x < first + span level
-      → IsReferenceMade facts level first Made frame joined u → IsReferenced facts x Use level table.frame table.bits frame joined u
-  made-referenced Made some x frame joined u low high r = record {
-    above = r.held;
-    references = r.references;
-    frame_is = r.frame_is;
-    bits_are = r.bits_are;
-    kept = used-kept x u r.t r.held low high r.order r.within r.spared (some-used r.held r.t (some r.held r.t r.is_made));
-  }
-
-  reference-found : (x frame : ℕ) (joined : Bits) (u : ℕ) → first ≤ x → x < first + span level
-      → IsReferenceOfSome facts level first clear frame joined u ⊎ IsReferenceOfSome facts level first set frame joined u
-      → IsReferenced facts x Use level table.frame table.bits frame joined u
-  reference-found x frame joined u low high (inl h) =
-      made-referenced (WasMade clear) (λ held t m. inl m) x frame joined u low high (reference-made facts level first clear frame joined u h)
-  reference-found x frame joined u low high (inr h) =
-      made-referenced (WasMade set) (λ held t m. inr m) x frame joined u low high (reference-made facts level first set frame joined u h)
-
-  found-reference : (x frame : ℕ) (joined : Bits) (u : ℕ) → first ≤ x → x < first + span level
-      → IsReferenced facts x Use level table.frame table.bits frame joined u
-      → IsReferenceOfSome facts level first clear frame joined u ⊎ IsReferenceOfSome facts level first set frame joined u
-  found-reference x frame joined u low high r =
-      let spared = kept-spared x u r.above low high r.kept in
-      elim (used-some r.above r.kept.t (kept-used x u r.above low high r.kept)) [
-        | inl a ↦ inl (made-reference facts level first clear frame joined u r.above r.kept.t r.references r.frame_is r.bits_are r.kept.order r.kept.within spared a)
-        | inr b ↦ inr (made-reference facts level first set frame joined u r.above r.kept.t r.references r.frame_is r.bits_are r.kept.order r.kept.within spared b)
-      ]
-
-  pub slot-is : (by_clear by_set : Option StalePage) (some : List HeldTable) (slot : SlotFindings)
-      → IsFirst (IsLeafOfSome facts level first clear) by_clear → IsFirst (IsLeafOfSome facts level first set) by_set
-      → slot.found ≡ first_of_two by_clear by_set
-      → ((frame : ℕ) (joined : Bits) (u : ℕ)
-      → IsListedAt some frame joined u ↔ (IsListedAt [] frame joined u ⊎ IsReferenceOfSome facts level first clear frame joined u))
-      → ((frame : ℕ) (joined : Bits) (u : ℕ)
-      → IsListedAt slot.tables.items frame joined u ↔ (IsListedAt some frame joined u ⊎ IsReferenceOfSome facts level first set frame joined u))
+  -- a slot of which all that it made is harmless
+  pub harmless-slot : (slot : SlotFindings)
+      → ((held : Held) (t : ℕ) → IsMadeInUse facts table level address table.bits held t → IsHarmless facts level first held)
+      → slot.found ≡ None → slot.tables.items ≡ []
       → IsSlot facts first (IsTimeOf (is_in_use table)) level table.frame table.bits slot
-  slot-is by_clear by_set some slot first_clear first_set found_is listed more = record {
-    found = subst (IsFirst (IsLeafFoundIn facts first (first + span level) Use level table.frame table.bits)) (sym found_is)
-        (first-same (λ one. IsLeafOfSome facts level first clear one ⊎ IsLeafOfSome facts level first set one)
-        (IsLeafFoundIn facts first (first + span level) Use level table.frame table.bits) (first_of_two by_clear by_set)
-        leaf-found found-leaf
-        (first-either (IsLeafOfSome facts level first clear) (IsLeafOfSome facts level first set) by_clear by_set first_clear first_set));
-    listed = λ x frame joined u low high r. (more frame joined u).1 (elim (found-reference x frame joined u low high r) [
-      | inl a ↦ inl ((listed frame joined u).1 (inr a))
-      | inr b ↦ inr b
-    ]);
-    referenced = λ x frame joined u low high l. reference-found x frame joined u low high (elim ((more frame joined u).0 l) [
-      | inl a ↦ elim ((listed frame joined u).0 a) [ inl n ↦ absurd n | inr b ↦ inl b ]
-      | inr b ↦ inr b
-    ]);
+  harmless-slot slot harmless found_is tables_are = record {
+    found = subst (IsFirst Leaf) (sym found_is) (λ one f.
+        let made = kept-used one.page facts.end f.held f.page.least f.page.below f.kept in
+        (harmless f.held f.kept.t made).1 one f.page f.stale);
+    listed = λ x frame joined u low high r.
+        let made = kept-used x u r.above low high r.kept in
+        absurd (clash r.above.leaf (harmless r.above r.kept.t made).0 r.references);
+    referenced = λ x frame joined u low high l.
+        absurd (subst (λ list. IsListedAt list frame joined u) tables_are l);
   }
+
+  -- the entries that it made with NXE 0 and with NXE 1
+  module _ (clear set : List PastEntry)
+      (made_clear : (held : Held) (t : ℕ) → WasMade clear held t ↔ IsMadeWith facts false table.nxe_clear level address table.bits held t)
+      (made_set : (held : Held) (t : ℕ) → WasMade set held t ↔ IsMadeWith facts true table.nxe_set level address table.bits held t) where
+    some-used : (held : Held) (t : ℕ) → WasMade clear held t ⊎ WasMade set held t → IsMadeInUse facts table level address table.bits held t
+    some-used held t h = with-in_use facts table level address table.bits ready timed held t
+        (elim h [ inl a ↦ inl ((made_clear held t).0 a) | inr b ↦ inr ((made_set held t).0 b) ])
+
+    used-some : (held : Held) (t : ℕ) → IsMadeInUse facts table level address table.bits held t → WasMade clear held t ⊎ WasMade set held t
+    used-some held t h = elim (in_use-with facts table level address table.bits ready timed held t h) [
+      | inl a ↦ inl ((made_clear held t).1 a)
+      | inr b ↦ inr ((made_set held t).1 b)
+    ]
+
+    made-found : (Made : Held → ℕ → Type 0) → ((held : Held) (t : ℕ) → Made held t → WasMade clear held t ⊎ WasMade set held t)
+        → (one : StalePage) → IsLeafMade facts level first Made one → Leaf one
+    made-found Made some one r = record {
+      page = r.page;
+      held = r.held;
+      leaf = r.leaf;
+      kept = used-kept one.page facts.end r.t r.held r.page.least r.page.below r.order (omega arith) r.spared
+          (some-used r.held r.t (some r.held r.t r.is_made));
+      stale = r.stale;
+    }
+
+    leaf-found : (one : StalePage) → IsLeafOfSome facts level first clear one ⊎ IsLeafOfSome facts level first set one → Leaf one
+    leaf-found one (inl h) = made-found (WasMade clear) (λ held t m. inl m) one (leaf-made facts level first clear one h)
+    leaf-found one (inr h) = made-found (WasMade set) (λ held t m. inr m) one (leaf-made facts level first set one h)
+
+    found-leaf : (one : StalePage) → Leaf one → IsLeafOfSome facts level first clear one ⊎ IsLeafOfSome facts level first set one
+    found-leaf one f =
+        let spared = kept-spared one.page facts.end f.held f.page.least f.page.below f.kept in
+        elim (used-some f.held f.kept.t (kept-used one.page facts.end f.held f.page.least f.page.below f.kept)) [
+          | inl a ↦ inl (made-leaf facts level first clear one f.page f.held f.kept.t f.leaf f.kept.order spared f.stale a)
+          | inr b ↦ inr (made-leaf facts level first set one f.page f.held f.kept.t f.leaf f.kept.order spared f.stale b)
+        ]
+
+    made-referenced : (Made : Held → ℕ → Type 0) → ((held : Held) (t : ℕ) → Made held t → WasMade clear held t ⊎ WasMade set held t)
+        → (x frame : ℕ) (joined : Bits) (u : ℕ) → first ≤ x → x < first + span level
+        → IsReferenceMade facts level first Made frame joined u → IsReferenced facts x Use level table.frame table.bits frame joined u
+    made-referenced Made some x frame joined u low high r = record {
+      above = r.held;
+      references = r.references;
+      frame_is = r.frame_is;
+      bits_are = r.bits_are;
+      kept = used-kept x u r.t r.held low high r.order r.within r.spared (some-used r.held r.t (some r.held r.t r.is_made));
+    }
+
+    reference-found : (x frame : ℕ) (joined : Bits) (u : ℕ) → first ≤ x → x < first + span level
+        → IsReferenceOfSome facts level first clear frame joined u ⊎ IsReferenceOfSome facts level first set frame joined u
+        → IsReferenced facts x Use level table.frame table.bits frame joined u
+    reference-found x frame joined u low high (inl h) =
+        made-referenced (WasMade clear) (λ held t m. inl m) x frame joined u low high (reference-made facts level first clear frame joined u h)
+    reference-found x frame joined u low high (inr h) =
+        made-referenced (WasMade set) (λ held t m. inr m) x frame joined u low high (reference-made facts level first set frame joined u h)
+
+    found-reference : (x frame : ℕ) (joined : Bits) (u : ℕ) → first ≤ x → x < first + span level
+        → IsReferenced facts x Use level table.frame table.bits frame joined u
+        → IsReferenceOfSome facts level first clear frame joined u ⊎ IsReferenceOfSome facts level first set frame joined u
+    found-reference x frame joined u low high r =
+        let spared = kept-spared x u r.above low high r.kept in
+        elim (used-some r.above r.kept.t (kept-used x u r.above low high r.kept)) [
+          | inl a ↦ inl (made-reference facts level first clear frame joined u r.above r.kept.t r.references r.frame_is r.bits_are r.kept.order r.kept.within spared a)
+          | inr b ↦ inr (made-reference facts level first set frame joined u r.above r.kept.t r.references r.frame_is r.bits_are r.kept.order r.kept.within spared b)
+        ]
+
+    pub slot-is : (by_clear by_set : Option StalePage) (some : List HeldTable) (slot : SlotFindings)
+        → IsFirst (IsLeafOfSome facts level first clear) by_clear → IsFirst (IsLeafOfSome facts level first set) by_set
+        → slot.found ≡ first_of_two by_clear by_set
+        → ((frame : ℕ) (joined : Bits) (u : ℕ)
+        → IsListedAt some frame joined u ↔ (IsListedAt [] frame joined u ⊎ IsReferenceOfSome facts level first clear frame joined u))
+        → ((frame : ℕ) (joined : Bits) (u : ℕ)
+        → IsListedAt slot.tables.items frame joined u ↔ (IsListedAt some frame joined u ⊎ IsReferenceOfSome facts level first set frame joined u))
+        → IsSlot facts first (IsTimeOf (is_in_use table)) level table.frame table.bits slot
+    slot-is by_clear by_set some slot first_clear first_set found_is listed more = record {
+      found = subst (IsFirst (IsLeafFoundIn facts first (first + span level) Use level table.frame table.bits)) (sym found_is)
+          (first-same (λ one. IsLeafOfSome facts level first clear one ⊎ IsLeafOfSome facts level first set one)
+          (IsLeafFoundIn facts first (first + span level) Use level table.frame table.bits) (first_of_two by_clear by_set)
+          leaf-found found-leaf
+          (first-either (IsLeafOfSome facts level first clear) (IsLeafOfSome facts level first set) by_clear by_set first_clear first_set));
+      listed = λ x frame joined u low high r. (more frame joined u).1 (elim (found-reference x frame joined u low high r) [
+        | inl a ↦ inl ((listed frame joined u).1 (inr a))
+        | inr b ↦ inr b
+      ]);
+      referenced = λ x frame joined u low high l. reference-found x frame joined u low high (elim ((more frame joined u).0 l) [
+        | inl a ↦ elim ((listed frame joined u).0 a) [ inl n ↦ absurd n | inr b ↦ inl b ]
+        | inr b ↦ inr b
+      ]);
+    }
 
 -- a slot that isn't known
 pub unknown-slot : (facts : Facts) (table : TimedTable) (level first : ℕ) (slot : SlotFindings) → AreTimely facts → IsTimed facts table
@@ -269,7 +287,7 @@ pub unknown-slot : (facts : Facts) (table : TimedTable) (level first : ℕ) (slo
     → slot.found ≡ None → slot.tables.items ≡ []
     → IsSlot facts first (IsTimeOf (is_in_use table)) level table.frame table.bits slot
 unknown-slot facts table level first slot ready timed whole none found_is tables_are =
-    slot-is facts table level first (entry_address level first table.frame) [] [] ready timed whole refl
+    slot-is facts table level first (entry_address level first table.frame) ready timed whole refl [] []
     (λ held t. unknown-made facts false table.nxe_clear level (entry_address level first table.frame) table.bits held t none)
     (λ held t. unknown-made facts true table.nxe_set level (entry_address level first table.frame) table.bits held t none)
     None None [] slot (λ one h. absurd h) (λ one h. absurd h) found_is

@@ -1,5 +1,5 @@
 -- The entries that one slot of a table made over time, with NXE as it was, and what they come to. Our own words.
-use Rattle.std.specs.Prelude.{◌≡◌, ℕ, ◌+◌, ◌*◌, ◌&&◌, ◌||◌, ◌⊎◌, ◌<◌, ◌≤◌, Bool, true, false, List, [], ◌∷◌, length, slice_index_or, Some, None}
+use Rattle.std.specs.Prelude.{◌≡◌, ℕ, ◌+◌, ◌*◌, ◌&&◌, ◌||◌, ◌⊎◌, ◌<◌, ◌≤◌, Bool, true, false, List, [], ◌∷◌, length, slice_index_or, Option, Some, None}
 use Rattle.paging_model.specs.Entries.{IsFrame}
 use Rattle.paging_model.specs.LinearAddress.{span}
 use Rattle.paging_model.specs.declared.entries.Bits.{Bits}
@@ -14,7 +14,7 @@ use Rattle.present_pages.specs.StalePages.{IsPageIn}
 use Rattle.present_pages.specs.declared.stale_pages.HeldPage.{HeldPage}
 use Rattle.time_sets.specs.Sets.{has_time}
 use Rattle.version_store.specs.Changes.{value_at}
-use Rattle.stale_audit.specs.Facts.{Facts, IsStaleBy, made_with}
+use Rattle.stale_audit.specs.Facts.{Facts, IsStaleBy, made_in_pcid, made_with}
 use Rattle.stale_audit.specs.declared.made_entries.MadeEntries.{MadeEntries}
 use Rattle.stale_audit.specs.declared.made_entries.MadeEntries.TheVariants.{Always, Past}
 use Rattle.stale_audit.specs.declared.slot_values.SlotValues.{SlotValues}
@@ -60,6 +60,11 @@ pub record IsMadeWith (facts : Facts) (nxe : Bool) (times : List (ℕ × ℕ)) (
   pub in_times : has_time times t ≡ true
   pub is_made : made_with facts nxe level address above t ≡ Some held
 
+-- made at a time of use, with NXE as it was
+pub record IsMadeInUse (facts : Facts) (table : TimedTable) (level address : ℕ) (above : Bits) (held : Held) (t : ℕ) : Type 0 where
+  pub in_use : is_in_use table t ≡ true
+  pub is_made : made_in_pcid facts level address above t ≡ Some held
+
 -- what was made at some times of an entry of a level, from its first address on, is held at a time
 abbrev pub IsFillHeldAt : Facts → ℕ → ℕ → PastEntry → ℕ → Type 0
 IsFillHeldAt facts level first entry u =
@@ -82,6 +87,20 @@ abbrev pub IsLeafOfSome : Facts → ℕ → ℕ → List PastEntry → StalePage
 IsLeafOfSome facts level first [] one = ⊥
 IsLeafOfSome facts level first (entry ∷ rest) one =
     IsLeafOf facts level first entry one ⊎ IsLeafOfSome facts level first rest one
+
+-- what is held of an entry references no table, and is stale at no page of the entry's range, whenever it is held
+abbrev pub IsHarmless : Facts → ℕ → ℕ → Held → Type 0
+IsHarmless facts level first held = (held.leaf ≡ true)
+    × ((one : StalePage) → IsPageIn first (first + span level) one.page → IsStaleBy facts level held one → ⊥)
+
+-- what is made of a value is so
+abbrev pub MakesHarmless : Facts → ℕ → ℕ → (ℕ → Option Held) → ℕ → Type 0
+MakesHarmless facts level first makes value = (held : Held) → makes value ≡ Some held → IsHarmless facts level first held
+
+-- what is made of the values of spans is so
+abbrev pub AllHarmless : Facts → ℕ → ℕ → (ℕ → Option Held) → List (ℕ × ℕ × ℕ) → Type 0
+AllHarmless facts level first makes spans =
+    (k : ℕ) (d : ℕ × ℕ × ℕ) → k < length spans → MakesHarmless facts level first makes (slice_index_or spans k d).2
 
 -- an entry that was made at some times references a table, and is held at a time
 pub record IsReferenceOf (facts : Facts) (level first : ℕ) (entry : PastEntry) (frame : ℕ) (joined : Bits) (u : ℕ) : Type 0 where

@@ -109,7 +109,7 @@ fn leaf_of<L: Ledger>(
 }
 
 /// The first page of a slot's range at which the translation by an entry exceeds the present tables.
-fn first_page<L: Ledger>(
+pub(crate) fn first_page<L: Ledger>(
     point: &Point<'_, '_, L>,
     range: PresentRange,
     fill: &Fill,

@@ -15,6 +15,7 @@
 
 mod descent;
 mod firsts;
+mod harmless_values;
 mod leaves;
 mod made_entries;
 mod point;

@@ -1,6 +1,6 @@
 //! Tables that serve addresses as they did at each time since the horizon.
 
-ghost use Rattle.std.specs.Prelude.{◌≡◌, ◌≢◌, ℕ, ◌+◌, ◌*◌, ◌<◌, ◌≤◌, true, false, Ok, Some, IfOk, IfSome, OnOk, OnErr, option_map};
+ghost use Rattle.std.specs.Prelude.{◌≡◌, ◌≢◌, ℕ, ◌+◌, ◌*◌, ◌^◌, ◌<◌, ◌≤◌, true, false, Ok, Some, IfOk, IfSome, OnOk, OnErr, option_map};
 ghost use Rattle.std.specs.BTreeMap.{get};
 ghost use Rattle.std.specs.Ordering.{nat_cmp};
 ghost use Rattle.paging_model.specs.Entries.{IsFrame, entry_of};
@@ -24,6 +24,9 @@ const PRESENT: u8 = 0;
 
 /// The number of entries of a table.
 pub(crate) const ENTRIES: usize = 512;
+
+/// How many entries are tested together.
+const CHUNK: usize = 4;
 
 /// Which tables are steady, of those that were looked through: by the address of each plus its level. The address is a
 /// multiple of 4,096.
@@ -133,12 +136,29 @@ fn next_present<L: Ledger>(entries: &Entries<'_, '_, L>, from: usize, end: usize
     ensures absent { (k : ℕ) → from ≤ k → k < result
         → IsAbsent (entry_at (memory_of entries.now.seen) (entries.now.at + 8 * k)) }
 {
-    for i in from..end {
-        if is_present(entries.get(i)) {
-            return i;
+    let mut i = from;
+    while end - i >= CHUNK && are_absent(entries, i) {
+        i += CHUNK;
+    }
+    for k in i..end {
+        if is_present(entries.get(k)) {
+            return k;
         }
     }
     end
+}
+
+/// Whether four entries from one on are absent. They are tested together: a test less for each of three of them.
+#[inline]
+fn are_absent<L: Ledger>(entries: &Entries<'_, '_, L>, from: usize) -> bool
+    requires within { from + 4 ≤ entries.now.count }
+    requires fits { from + 4 < 2 ^ 64 }
+    ensures { result ≡ true → (k : ℕ) → from ≤ k → k < from + 4
+        → IsAbsent (entry_at (memory_of entries.now.seen) (entries.now.at + 8 * k)) }
+{
+    let first = is_present(entries.get(from)) | is_present(entries.get(from + 1));
+    let last = is_present(entries.get(from + 2)) | is_present(entries.get(from + 3));
+    !(first | last)
 }
 
 /// Whether an entry is known, and present.

@@ -1,7 +1,15 @@
+use Rattle.std.proofs.Common.{None, refl}
 use Rattle.stale_audit.specs.SlotEntries.{entries_at}
 use Rattle.stale_audit.proofs.EntryLaws.{spans-order}
-use Rattle.stale_audit.proofs.SlotLaws.{slot-is}
+use Rattle.stale_audit.proofs.SlotLaws.{harmless-slot, slot-is}
 use Rattle.stale_audit.proofs.slots.known_slot.Goals as goal
+
+pub returns-then-is_harmless_slot-clause-slot : goal.returns-then-is_harmless_slot-clause-slot
+returns-then-is_harmless_slot-clause-slot g c =
+    harmless-slot c.args.point.now c.args.table.now c.args.range.level c.args.range.first c.args.address
+    c.requires.ready c.requires.timed c.requires.range.whole c.requires.address (record { found = None; tables = c.new.result })
+    (λ held t. c.is_harmless_slot.ensures c.if-is_harmless_slot.true c.args.address c.args.present held t c.requires.present c.in_ok-values.ensures)
+    refl c.new.ensures.items
 
 pub made_entries-requires-clause-order : goal.made_entries-requires-clause-order
 made_entries-requires-clause-order g c = spans-order _ _ _ _ _ c.in_ok-values.ensures
@@ -28,8 +36,8 @@ add_tables-requires-2-clause-until g c = λ held t made.
 pub returns-clause-slot : goal.returns-clause-slot
 returns-clause-slot g c =
     slot-is c.args.point.now c.args.table.now c.args.range.level c.args.range.first c.args.address
-    (entries_at c.in_ok-clear.clear c.args.table.now.nxe_clear) (entries_at c.in_ok-set.set c.args.table.now.nxe_set)
     c.requires.ready c.requires.timed c.requires.range.whole c.requires.address
+    (entries_at c.in_ok-clear.clear c.args.table.now.nxe_clear) (entries_at c.in_ok-set.set c.args.table.now.nxe_set)
     (λ held t. c.in_ok-clear.ensures.made c.args.address c.args.present held t c.requires.present c.in_ok-values.ensures)
     (λ held t. c.in_ok-set.ensures.made c.args.address c.args.present held t c.requires.present c.in_ok-values.ensures)
     c.first_leaf-by_clear.result c.first_leaf-by_set.result c.add_tables.new.tables.items
