@@ -1,0 +1,3 @@
+pub mod WrittenPlaces
+pub mod Patches
+pub mod PageNumbers

@@ -1,0 +1,3 @@
+pub mod PatchRanges
+pub mod SpaceUpdates
+pub mod TouchedUses
