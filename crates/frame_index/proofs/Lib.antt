@@ -1,0 +1,9 @@
+pub mod Slots
+pub mod Orders
+pub mod Leading
+pub mod FiledRecords
+pub mod Ranges
+pub mod Entries
+pub mod Tables
+pub mod Gone
+pub mod Flags

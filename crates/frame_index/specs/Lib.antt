@@ -1,0 +1,4 @@
+pub mod CountedUses
+pub mod Records
+pub mod FrameFlags
+pub mod WholeRecords
