@@ -32,7 +32,7 @@ module _ {Kind : Type 0} where
   rest_is_none false target rest none = none
 
   -- ranges of pages that map no address but canonical ones
-  are-stretches : (five_levels : Bool) (list : List (Stretch Kind)) → ArePageRanges list
+  pub are-stretches : (five_levels : Bool) (list : List (Stretch Kind)) → ArePageRanges list
       → ((x : ℕ) → (target_in list x ≡ None → ⊥) → IsTrue (is_canonical five_levels x)) → AreStretches five_levels list
   are-stretches five_levels [] ranges canonical = tt
   are-stretches five_levels (one ∷ rest) ranges canonical = (
@@ -64,6 +64,13 @@ module _ (memory : Memory) (settings : Settings) (root : ℕ) where
   leaves-both : length (leaves_of memory settings root)
       ≡ length (leaves_from memory settings lower_top 0 256) + length (leaves_from memory settings upper_top 256 256)
   leaves-both = length-append (leaves_from memory settings lower_top 0 256) (leaves_from memory settings upper_top 256 256)
+
+  -- the lower half ends before the upper one begins
+  pub halves-apart : slot_first lower_top 256 ≤ slot_first upper_top 256
+  halves-apart =
+      let low = (lower-half memory settings root).ends in
+      let high = (upper-half memory settings root).ends in
+      omega (arith, low, high)
 
   -- no more uses are counted than there are
   pub at-least-uses : (n : ℕ) → n ≤ 1 + (length (uses_from memory settings lower_top 0 256) + length (uses_from memory settings upper_top 256 256))

@@ -15,13 +15,25 @@ use Rattle.paging_model.specs.declared.spaces.Region.{Region}
 use Rattle.paging_model.specs.declared.spaces.TableUse.{TableUse}
 use Rattle.paging_laws.specs.EntryParts.{uses_at, leaves_at}
 use Rattle.region_map.specs.Coalesced.{target_at}
-use Rattle.space_map.specs.MappedRanges.{IsMappedIn, IsClear}
+use Rattle.space_map.specs.MappedRanges.{IsMappedIn, IsClear, Mapping}
 use Rattle.space_map.specs.PartialSpaces.{HasUse, HasLeaf, HasRange, ExceedsLimits}
 use Rattle.space_map.specs.Walks.{IsWalkable, slot_first, uses_from, leaves_from, target_from, meaning, target_by}
 use Rattle.space_map.specs.declared.partial.PartialSpace.{PartialSpace}
 use Rattle.space_map.proofs.MappedRanges.{mapped-same}
 use Rattle.space_map.proofs.Spans.{span_down}
 use Rattle.space_map.proofs.SlotWalks.{Walked}
+
+-- what is said of a range goes by regions and numbers alone
+pub range-same : (low high : ℕ) (target : Mapping) (tables pages : ℕ) (old new same : PartialSpace) → same.regions ≡ new.regions
+    → same.uses ≡ new.uses → same.leaves ≡ new.leaves → HasRange low high target tables pages old new → HasRange low high target tables pages old same
+range-same low high target tables pages old new same regions uses leaves has = record {
+  mapped = record {
+    inside = λ page is least less. ap (λ it. target_at it page) regions ∙ has.mapped.inside page is least less;
+    outside = λ x out. ap (λ it. target_at it x) regions ∙ has.mapped.outside x out;
+  };
+  uses = uses ∙ has.uses;
+  leaves = leaves ∙ has.leaves;
+}
 
 -- the table that an entry references
 module _ (memory : Memory) (settings : Settings) (level first : ℕ) (above : Bits) (value frame : ℕ) (bits : Bits) (least : 2 ≤ level)

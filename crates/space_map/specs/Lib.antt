@@ -1,4 +1,10 @@
+pub mod ServingTables
 pub mod MappedRanges
 pub mod PartialSpaces
 pub mod Walks
-pub mod BuiltSpaces
+pub mod WalkedIndexes
+pub mod PatchWalks
+pub mod FramePatches
+pub mod TrueSpaces
+pub mod Plans
+pub mod TrueBefore

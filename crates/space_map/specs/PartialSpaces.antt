@@ -13,6 +13,7 @@ use Rattle.space_map.specs.declared.partial.PartialSpace.{PartialSpace}
 -- a table is counted
 pub record HasUse (old new : PartialSpace) : Type 0 where
   pub regions : new.regions ≡ old.regions
+  pub index : new.index ≡ old.index
   pub uses : new.uses ≡ old.uses + 1
   pub leaves : new.leaves ≡ old.leaves
 
@@ -25,6 +26,7 @@ AddsUse result old new =
 -- a page is mapped, and counted
 pub record HasLeaf (page : Region) (old new : PartialSpace) : Type 0 where
   pub filled : IsFilled (stretch_of_region page) (target_at old.regions) (target_at new.regions)
+  pub index : new.index ≡ old.index
   pub uses : new.uses ≡ old.uses
   pub leaves : new.leaves ≡ old.leaves + 1
 
@@ -47,8 +49,8 @@ ExceedsLimits tables pages old =
     (use_limit < old.uses + tables) ⊎ (leaf_limit < old.leaves + pages)
 
 -- a range is added; it is too large only where its tables or its pages are too many
-abbrev pub AddsRange : (low high : ℕ) → Mapping → (tables pages : ℕ)
-    → Result (Unit {0}) SpaceFault → PartialSpace → PartialSpace → Type 0
+abbrev pub AddsRange : {Value : Type 0} → (low high : ℕ) → Mapping → (tables pages : ℕ)
+    → Result Value SpaceFault → PartialSpace → PartialSpace → Type 0
 AddsRange low high target tables pages result old new =
     MatchResult result (λ _. HasRange low high target tables pages old new)
     (λ fault. fault ≡ TooLarge → ExceedsLimits tables pages old)

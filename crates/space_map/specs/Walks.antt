@@ -46,8 +46,8 @@ target_from memory settings level table above page =
     raw_target_of (walk_from memory settings level page table above)
 
 -- the range of so many entries of a table is added
-abbrev pub WalksSlots : Memory → Settings → TableUse → (from count : ℕ)
-    → Result (Unit {0}) SpaceFault → PartialSpace → PartialSpace → Type 0
+abbrev pub WalksSlots : {Value : Type 0} → Memory → Settings → TableUse → (from count : ℕ)
+    → Result Value SpaceFault → PartialSpace → PartialSpace → Type 0
 WalksSlots memory settings table from count result old new =
     AddsRange (slot_first table from) (slot_first table (from + count))
     (target_from memory settings table.level table.frame table.bits)
@@ -66,8 +66,8 @@ target_by memory settings level above value page =
     settings level page above value)
 
 -- the range of an entry is added, which begins at an address
-abbrev pub WalksEntry : Memory → Settings → (level first : ℕ) → Bits → Option ℕ
-    → Result (Unit {0}) SpaceFault → PartialSpace → PartialSpace → Type 0
+abbrev pub WalksEntry : {Value : Type 0} → Memory → Settings → (level first : ℕ) → Bits → Option ℕ
+    → Result Value SpaceFault → PartialSpace → PartialSpace → Type 0
 WalksEntry memory settings level first above value result old new =
     AddsRange first (first + span level) (target_by memory settings level above value)
     (length (uses_at memory settings level first above (meaning settings level value)))

@@ -2,7 +2,7 @@ use Rattle.std.proofs.Common.{◌≡◌, ℕ, ◌-◌, ◌*◌, ◌^◌, ap, ◌
 use Rattle.std.specs.Prelude.{◌%◌}
 use Rattle.paging_model.specs.LinearAddress.{span}
 use Rattle.space_map.proofs.Spans.{upper-whole}
-use Rattle.space_map.proofs.space.upper_prefix.Goals as goal
+use Rattle.space_map.proofs.building.upper_prefix.Goals as goal
 
 pub returns-clause-whole : goal.returns-clause-whole
 returns-clause-whole c =
