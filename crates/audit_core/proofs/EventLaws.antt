@@ -4,15 +4,17 @@ use Rattle.std.specs.Prelude.{◌==◌, if◌then◌else◌}
 use Rattle.std.proofs.lemmas.Bool.{ne_eqb, eqb-true, eqb-false}
 use Rattle.std.proofs.lemmas.List.{length-map, get_or-map, map-set}
 use Rattle.std.proofs.Math.Seq.{map-set_same}
-use Rattle.paging_model.specs.Memory.{byte_in}
+use Rattle.paging_model.specs.Memory.{Memory, byte_in}
 use Rattle.paging_model.specs.Registers.{la57}
 use Rattle.paging_model.specs.RegisterRules.{with_change}
 use Rattle.paging_model.specs.declared.access.Access.{Access}
 use Rattle.paging_model.specs.declared.registers.Processor.{Processor}
 use Rattle.paging_model.specs.declared.registers.RegChange.{RegChange}
 use Rattle.paging_model.specs.declared.registers.Regs.{Regs}
+use Rattle.paging_model.specs.declared.spaces.SpaceKey.{SpaceKey}
 use Rattle.history_model.specs.Asking.{answer_to_ask}
 use Rattle.history_model.specs.History.{History, Start, after_event, begun, insert_processor, insert_processors, memory, next, page_of, pages, processors, regs, regs_in, set_in, with_bytes, with_number, with_processor}
+use Rattle.history_model.specs.KeptSpaces.{KeptAfter, StayKept}
 use Rattle.history_model.specs.Refusals.{cpu_refusal, if_unknown}
 use Rattle.history_model.specs.declared.answers.Answer.{Answer}
 use Rattle.history_model.specs.declared.answers.Answer.TheVariants.{Asked, Nothing}
@@ -23,6 +25,9 @@ use Rattle.history_model.specs.declared.faults.StepFault.{StepFault}
 use Rattle.history_model.specs.declared.faults.StepFault.TheVariants as fault
 use Rattle.elf_core.specs.declared.core_file.Core.{Core}
 use Rattle.phys_view.specs.Seen.{Seen, memory_of, written_pages}
+use Rattle.space_map.specs.declared.space.Space.{Space}
+use Rattle.kept_spaces.specs.Keys.{keys_of}
+use Rattle.kept_spaces.specs.Updating.{AreUpdated}
 use Rattle.version_store.specs.WrittenChanges.{kept_changes}
 use Rattle.cache_rules.specs.Hosts.{Keeping, new_host}
 use Rattle.audit_core.specs.HostLists.{AreHostsOf, AreNewHosts, Invalidates, Notes, NotesAt, SetsRegister, insert_host, processor_of, processors_of}
@@ -39,10 +44,14 @@ use Rattle.audit_core.proofs.ProcessorNumbers.{set_at}
 abbrev pub with_hosts : Holding → List Keeping → Holding
 with_hosts holding hosts = record holding { happened = holding.happened + 1; hosts = hosts }
 
--- a session with other memory, after an event
-abbrev pub with_memory : Holding → Remembering → Holding
-with_memory holding memory =
-    record holding { happened = holding.happened + 1; seen = memory.seen; kept = memory.kept }
+-- a session with other memory and spaces, after an event
+abbrev pub with_memory : Holding → Remembering → List Space → Holding
+with_memory holding memory spaces =
+    record holding { happened = holding.happened + 1; seen = memory.seen; kept = memory.kept; spaces = spaces }
+
+-- what is known of memory at a moment
+abbrev memory_in : History → Memory
+memory_in moment = memory moment
 
 sym-false : (m n : ℕ) → (m == n) ≡ false → (n == m) ≡ false
 sym-false m n h = ne_eqb n m (λ is. eqb-false m n h (sym is))
@@ -100,8 +109,9 @@ noted-stands : (holding : Holding) (moment : History) (cpu : ℕ) (happened : Ev
     → regs (next moment happened) cpu ≡ Some (changed notes.known) → la57 (changed notes.known) ≡ la57 notes.known
     → processors (next moment happened) ≡ processors_of hosts → memory (next moment happened) ≡ memory moment
     → pages (next moment happened) ≡ pages moment → kept_changes (next moment happened) ≡ kept_changes moment
+    → ((keys : List SpaceKey) → KeptAfter moment happened keys keys)
     → HasAllOf (with_hosts holding hosts) (next moment happened)
-noted-stands holding moment cpu happened changed hosts has notes leaves is_known levels procs same_memory same_pages same_changes = record {
+noted-stands holding moment cpu happened changed hosts has notes leaves is_known levels procs same_memory same_pages same_changes same_spaces = record {
   unpoisoned = has.unpoisoned;
   time_is = ap (λ n. n + 1) has.time_is;
   segments_are = has.segments_are;
@@ -114,6 +124,7 @@ noted-stands holding moment cpu happened changed hosts has notes leaves is_known
   hosts_are = hosts-noted moment holding.hosts hosts cpu notes.index happened (changed notes.known) has.hosts_are notes.at
       (subst (λ t. NotesAt notes.index (t + 1) happened (changed notes.known) holding.hosts hosts) (sym has.time_is) notes.noted)
       is_known leaves (λ d. levels ∙ ap la57 (same-some notes.known (get_or holding.hosts notes.index d).regs (sym notes.is_known ∙ notes.at.regs_are d)));
+  spaces_are = (keys_of holding.spaces, has.spaces_are, same_spaces (keys_of holding.spaces));
 }
   where
     same-some : (one other : Regs) → Some one ≡ Some other → one ≡ other
@@ -169,7 +180,7 @@ set-accepted holding cpu made hosts accepted notes = record {
       (others-left-by-set moment cpu made)
       (set_in-own cpu made (processors moment) notes.known (rw has.processors_are notes.is_known))
       (la57-kept holding.machine made notes.known (rw notes.is_known at accepted))
-      (rw has.processors_are (set-processors holding.hosts hosts (holding.happened + 1) cpu made notes)) refl refl refl;
+      (rw has.processors_are (set-processors holding.hosts hosts (holding.happened + 1) cpu made notes)) refl refl refl (λ keys. refl);
 }
 
 -- INVLPG is executed
@@ -184,7 +195,7 @@ invlpg-accepted holding cpu address hosts accepted notes = record {
       noted-stands holding moment cpu (event.Invlpg cpu address) (λ known. known) hosts has notes
       (record { spares = λ n other. sym-false n cpu other; keeps = λ n other. refl })
       (rw has.processors_are notes.is_known) refl
-      (rw has.processors_are (invalidated-processors holding.hosts hosts (holding.happened + 1) cpu (event.Invlpg cpu address) notes)) refl refl refl;
+      (rw has.processors_are (invalidated-processors holding.hosts hosts (holding.happened + 1) cpu (event.Invlpg cpu address) notes)) refl refl refl (λ keys. refl);
 }
 
 -- INVPCID is executed
@@ -199,7 +210,7 @@ invpcid-accepted holding cpu kind pcid address hosts accepted notes = record {
       noted-stands holding moment cpu (event.Invpcid cpu kind pcid address) (λ known. known) hosts has notes
       (record { spares = λ n other. sym-false n cpu other; keeps = λ n other. refl })
       (rw has.processors_are notes.is_known) refl
-      (rw has.processors_are (invalidated-processors holding.hosts hosts (holding.happened + 1) cpu (event.Invpcid cpu kind pcid address) notes)) refl refl refl;
+      (rw has.processors_are (invalidated-processors holding.hosts hosts (holding.happened + 1) cpu (event.Invpcid cpu kind pcid address) notes)) refl refl refl (λ keys. refl);
 }
 
 -- ---- an event that was carried out, or not
@@ -233,15 +244,17 @@ pub said-of : (done : Result (Unit {0}) StepFault) (said : Result Answer StepFau
     (record holding { happened = later; hosts = hosts; poisoned = poisoned }) happened)
 said-of done said holding hosts = said-so done said holding (record holding { hosts = hosts })
 
--- of one that leaves it this memory
+-- of one that leaves it this memory and these spaces
 pub said-of-memory : (done : Result (Unit {0}) StepFault) (said : Result Answer StepFault) (holding : Holding)
-    (memory : Remembering) (later : ℕ) (poisoned : Bool) (happened : Event) → OnOk done (said ≡ Ok Nothing)
+    (memory : Remembering) (spaces : List Space) (later : ℕ) (poisoned : Bool) (happened : Event)
+    → OnOk done (said ≡ Ok Nothing)
     → IfErr done (λ fault. said ≡ Err fault) → OnOk done (later ≡ holding.happened + 1)
     → (done ≢ Err fault.Memory → poisoned ≡ holding.poisoned)
-    → OnOk done (AcceptsEvent HasAllOf holding (with_memory holding memory) happened Nothing)
+    → OnOk done (AcceptsEvent HasAllOf holding (with_memory holding memory spaces) happened Nothing)
     → IfOk said (AcceptsEvent HasAllOf holding
-    (record holding { happened = later; seen = memory.seen; kept = memory.kept; poisoned = poisoned }) happened)
-said-of-memory done said holding memory = said-so done said holding (record holding { seen = memory.seen; kept = memory.kept })
+    (record holding { happened = later; seen = memory.seen; kept = memory.kept; poisoned = poisoned; spaces = spaces }) happened)
+said-of-memory done said holding memory spaces =
+    said-so done said holding (record holding { seen = memory.seen; kept = memory.kept; spaces = spaces })
 
 -- both of two facts hold where something was done
 pub on_both : {E : Type 0} (P Q : Type 0) (done : Result (Unit {0}) E) → OnOk done P → OnOk done Q → OnOk done (P × Q)
@@ -251,10 +264,11 @@ on_both P Q (Err _) p q = tt
 -- ---- events that no processor executes
 
 -- bytes are written
-pub write-accepted : (holding : Holding) (memory : Remembering) (at : ℕ) (bytes : List ℕ)
+pub write-accepted : (holding : Holding) (memory : Remembering) (spaces : List Space) (at : ℕ) (bytes : List ℕ)
     → KeepsWrite (record { seen = holding.seen; kept = holding.kept }) memory (holding.happened + 1) at bytes
-    → AcceptsEvent HasAllOf holding (with_memory holding memory) (event.Write at bytes) Nothing
-write-accepted holding memory at bytes keeps = record {
+    → AreUpdated (memory_of memory.seen) holding.spaces spaces
+    → AcceptsEvent HasAllOf holding (with_memory holding memory spaces) (event.Write at bytes) Nothing
+write-accepted holding memory spaces at bytes keeps updated = record {
   unrefused = λ moment has. rw (has.memory_is, has.pages_are) keeps.writes.unrefused;
   answered = λ moment has. refl;
   stands = λ moment has. record {
@@ -262,14 +276,23 @@ write-accepted holding memory at bytes keeps = record {
     time_is = ap (λ n. n + 1) has.time_is;
     segments_are = has.segments_are ∙ sym keeps.writes.extents;
     pages_are = ap (with_number (page_of at)) has.pages_are ∙ sym keeps.writes.pages;
-    memory_is = ap (with_bytes at bytes) has.memory_is ∙ sym (λ i a. keeps.writes.memory a i);
+    memory_is = memory-after moment has.memory_is;
     changes_are = keeps.keeps ∙ rw (has.changes_are, has.memory_is, has.time_is) refl;
     stated_is = has.stated_is;
     machine_is = has.machine_is;
     processors_are = has.processors_are;
     hosts_are = hosts_after_write moment holding.hosts at bytes has.hosts_are;
+    spaces_are = (
+      keys_of holding.spaces,
+      has.spaces_are,
+      subst (λ one. StayKept one (keys_of holding.spaces) (keys_of spaces)) (sym (memory-after moment has.memory_is)) updated.keys,
+    );
   };
 }
+  where
+    memory-after : (moment : History) → memory_in moment ≡ memory_of holding.seen
+        → with_bytes at bytes (memory_in moment) ≡ memory_of memory.seen
+    memory-after moment same = ap (with_bytes at bytes) same ∙ sym (λ i a. keeps.writes.memory a i)
 
 -- an access is asked for
 pub ask-accepted : (holding : Holding) (cpu : ℕ) (access : Access) (pointer : ℕ) (known : Regs) (said : Result ℕ Why)
@@ -291,6 +314,7 @@ ask-accepted holding cpu access pointer known said found is = record {
     machine_is = has.machine_is;
     processors_are = has.processors_are;
     hosts_are = hosts_after_ask moment holding.hosts cpu access pointer has.hosts_are;
+    spaces_are = (keys_of holding.spaces, has.spaces_are, refl);
   };
 }
 
@@ -325,6 +349,7 @@ stated-stands holding number known none start has = record {
   hosts_are =
       subst (λ on. AreHostsOf (begun (with_processor (record { number = number; regs = known }) start)) (insert_host (new_host number known on) holding.hosts))
       has.machine_is (hosts_with_one start holding.hosts number known has.hosts_are has.processors_are none);
+  spaces_are = has.spaces_are;
 }
 
 -- a processor is stated
@@ -346,11 +371,11 @@ cpu-accepted holding number known accepted none = record {
 -- ---- the beginning
 
 -- a session of a core has all that its beginning has
-pub core-stands : (core : Core) (memory : Remembering) (hosts : List Keeping)
+pub core-stands : (core : Core) (memory : Remembering) (hosts : List Keeping) (spaces : List Space)
     → memory.seen ≡ record { extents = core.segments; written = [] }
     → ((a : ℕ) → memory_of memory.seen a ≡ byte_in core.segments a) → memory.kept ≡ []
     → processors_of hosts ≡ insert_processors [] core.processors → AreNewHosts core.machine hosts
-    → HaveDistinctNumbers (processors_of hosts)
+    → HaveDistinctNumbers (processors_of hosts) → spaces ≡ []
     → HasAllOf (record {
       poisoned = false;
       happened = 0;
@@ -359,8 +384,9 @@ pub core-stands : (core : Core) (memory : Remembering) (hosts : List Keeping)
       stated = core.stated;
       machine = core.machine;
       hosts = hosts;
+      spaces = spaces;
     }) (begun (core_start core))
-core-stands core memory hosts is memory_is unchanged processors_are new distinct = record {
+core-stands core memory hosts spaces is memory_is unchanged processors_are new distinct none = record {
   unpoisoned = refl;
   time_is = refl;
   segments_are = ap (λ (one : Seen). one.extents) (sym is);
@@ -371,4 +397,5 @@ core-stands core memory hosts is memory_is unchanged processors_are new distinct
   machine_is = refl;
   processors_are = sym processors_are;
   hosts_are = new_hosts_are (core_start core) hosts new (sym processors_are) distinct;
+  spaces_are = ap keys_of none;
 }

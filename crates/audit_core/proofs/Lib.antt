@@ -9,3 +9,4 @@ mod AuditableHosts
 mod PointLaws
 mod OldEntries
 mod Writing
+mod SpaceWrites

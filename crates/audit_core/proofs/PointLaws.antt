@@ -5,6 +5,7 @@ use Rattle.history_model.specs.StaleTranslations.{AreFindings, scope}
 use Rattle.history_model.specs.declared.answers.Answer.TheVariants.{Verdict}
 use Rattle.history_model.specs.declared.caches.Finding.{Finding}
 use Rattle.history_model.specs.declared.events.Event.TheVariants as event
+use Rattle.kept_spaces.specs.Keys.{keys_of}
 use Rattle.version_store.specs.Changes.{KeptChanges}
 use Rattle.version_store.specs.WrittenChanges.{TellValues}
 use Rattle.version_store.proofs.HistoryLaws.{kept_changes-tell}
@@ -43,6 +44,7 @@ point-stands holding moment all has = record {
   machine_is = has.machine_is;
   processors_are = has.processors_are;
   hosts_are = hosts_stay moment holding.hosts (event.Point all) has.hosts_are (λ n. refl) (λ n. refl);
+  spaces_are = (keys_of holding.spaces, has.spaces_are, refl);
 }
 
 pub point-accepted : (holding : Holding) (all : Bool) (findings : List Finding)

@@ -14,7 +14,7 @@ use Rattle.version_store.specs.WrittenChanges.{entries_from, first_slot, touched
 use Rattle.audit_core.specs.Remembering.{KeepsWrite, Remembering}
 
 -- a write that isn't refused stays in its page
-within-page : (seen : Seen) (at n : ℕ) → refusal_of_write seen at n ≡ None → at % 4096 + n ≤ 4096
+pub within-page : (seen : Seen) (at n : ℕ) → refusal_of_write seen at n ≡ None → at % 4096 + n ≤ 4096
 within-page seen at n unrefused = by_known (first_unknown (memory_of seen) at n) refl
   where
     by_end : (crosses : Bool) → nat_lt 4096 (at % 4096 + n) ≡ crosses → first_unknown (memory_of seen) at n ≡ None

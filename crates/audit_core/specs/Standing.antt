@@ -1,12 +1,16 @@
 -- What a session stands for: the moment that a core and a list of accepted events lead to.
-use Rattle.std.specs.Prelude.{◌≡◌, ℕ, Bool, false, List, []}
+use Rattle.std.specs.Prelude.{◌≡◌, ℕ, Bool, false, All, List, []}
 use Rattle.paging_model.specs.declared.registers.Machine.{Machine}
 use Rattle.cache_rules.specs.Hosts.{Keeping}
 use Rattle.elf_core.specs.declared.core_file.Core.{Core}
 use Rattle.phys_view.specs.Seen.{Seen, memory_of, written_pages}
 use Rattle.elf_core.specs.Cores.{IsConsistent}
 use Rattle.history_model.specs.History.{Start, History, begun, start_of as beginning, memory, machine, pages, insert_processors, processors, time}
+use Rattle.history_model.specs.KeptSpaces.{AreKept}
 use Rattle.history_model.specs.Refusals.{LeadsTo}
+use Rattle.space_map.specs.TrueSpaces.{IsTrueOf}
+use Rattle.space_map.specs.declared.space.Space.{Space}
+use Rattle.kept_spaces.specs.Keys.{keys_of}
 use Rattle.version_store.specs.Changes.{KeptChanges}
 use Rattle.version_store.specs.WrittenChanges.{kept_changes}
 use Rattle.audit_core.specs.HostLists.{AreHostsOf, processors_of}
@@ -21,8 +25,8 @@ core_start core = record {
 }
 
 -- what a session holds: whether it is poisoned (memory ran out), the number of events so far, known memory and what writes
--- changed of it, the machine and whether it is stated, and what is kept of each processor, in ascending order of their
--- numbers
+-- changed of it, the machine and whether it is stated, what is kept of each processor, in ascending order of their numbers,
+-- and the spaces that are kept
 pub record Holding : Type 0 where
   pub poisoned : Bool
   pub happened : ℕ
@@ -31,9 +35,14 @@ pub record Holding : Type 0 where
   pub stated : Bool
   pub machine : Machine
   pub hosts : List Keeping
+  pub spaces : List Space
+
+-- the spaces of a session that isn't poisoned are true of memory
+abbrev pub AreTrueSpaces : Bool → Seen → List Space → Type 0
+AreTrueSpaces poisoned seen spaces = poisoned ≡ false → All (IsTrueOf (memory_of seen)) spaces
 
 -- a session that isn't poisoned has all that a moment has: its memory too, the pages that were written to, the changes that
--- all writes made, and the past of each processor
+-- all writes made, the past of each processor, and the spaces that are kept
 pub record HasAllOf (holding : Holding) (moment : History) : Type 0 where
   pub unpoisoned : holding.poisoned ≡ false
   pub time_is : time moment ≡ holding.happened
@@ -45,6 +54,7 @@ pub record HasAllOf (holding : Holding) (moment : History) : Type 0 where
   pub machine_is : machine moment ≡ holding.machine
   pub processors_are : processors moment ≡ processors_of holding.hosts
   pub hosts_are : AreHostsOf moment holding.hosts
+  pub spaces_are : AreKept moment (keys_of holding.spaces)
 
 -- a session stands for a core and a list of accepted events: for the moment that they lead to
 pub record StandsFor (holding : Holding) (moment : History) : Type 0 where

@@ -1,11 +1,9 @@
 -- What comes of an event: the session accepts it, refuses it, or runs out of memory. `Stands` is the relation between a
 -- session and the moments that it stands for.
 use Rattle.std.specs.Prelude.{◌≡◌, ◌⊎◌, ◌+◌, ◌≤◌, ℕ, Bool, true, false, IsTrue, Some, None}
-use Rattle.paging_model.specs.declared.spaces.SpaceKey.{SpaceKey}
 use Rattle.history_model.specs.Answering.{Answers}
 use Rattle.history_model.specs.History.{History, after_event}
-use Rattle.history_model.specs.Bounds.{BuildMayTake}
-use Rattle.history_model.specs.Horizons.{slots_of, space}
+use Rattle.history_model.specs.Bounds.{MayTake}
 use Rattle.history_model.specs.Refusals.{refusal}
 use Rattle.history_model.specs.declared.answers.Answer.{Answer}
 use Rattle.history_model.specs.declared.events.Event.{Event}
@@ -14,7 +12,7 @@ use Rattle.history_model.specs.declared.faults.StepFault.{StepFault}
 use Rattle.audit_core.specs.Standing.{Holding}
 
 -- memory may run out at the event: the list of processors grows with it, or the past of one, a page that is written to
--- needs a block, or what it held, a space is built, or the processors are audited
+-- needs a block, or what it held, a space is built or updated, or the processors are audited
 abbrev pub may_run_out : Event → Bool
 may_run_out (event.Cpu _ _) = true
 may_run_out (event.Write _ _) = true
@@ -25,14 +23,10 @@ may_run_out (event.List _) = true
 may_run_out (event.Point _) = true
 may_run_out _ = false
 
--- how many steps an accepted event may take, in the moment before it: a write one for each of its slots, a list as many as
--- its space takes to be built, and a point any number
+-- how many steps an accepted event may take, in the moment before it: as many as its bound says, and a point any number
 abbrev pub StepsMayBe : History → Event → ℕ → Type 0
-StepsMayBe moment (event.Write at bytes) steps = steps ≤ slots_of (event.Write at bytes)
-StepsMayBe moment (event.List cpu) steps =
-    (key : SpaceKey) × (space moment cpu ≡ Some key) × BuildMayTake moment key steps
 StepsMayBe moment (event.Point all) steps = Unit {0}
-StepsMayBe moment _ steps = steps ≤ 5
+StepsMayBe moment happened steps = MayTake moment happened steps
 
 -- it takes no more, of those before and after it
 pub record TakesSteps (moment : History) (happened : Event) (before after : ℕ) : Type 0 where

@@ -11,6 +11,7 @@ mod listing;
 mod memory;
 mod old_entries;
 mod session;
+mod writes;
 
 pub use session::Session;
 

@@ -1,10 +1,9 @@
 //! A core and the events that were accepted so far.
 
-ghost use Rattle.std.specs.Prelude.{◌≡◌, ◌≢◌, ◌<◌, ◌≤◌, ◌+◌, ◌^◌, length, Ok, Err, IfOk, IfErr, OnOk, OnErr, IsTrue, Some, None};
+ghost use Rattle.std.specs.Prelude.{◌≡◌, ◌≢◌, ◌<◌, ◌≤◌, ◌+◌, ◌^◌, false, length, Ok, Err, IfOk, IfErr, OnOk, OnErr, IsTrue, Some, None};
 ghost use Rattle.elf_core.specs.Cores.{IsConsistent};
 ghost use Rattle.history_model.specs.History.{History, begun, regs_in};
 ghost use Rattle.history_model.specs.Refusals.{cpu_refusal};
-ghost use Rattle.history_model.specs.KeptSpaces.{slots_written};
 ghost use Rattle.phys_view.specs.Seen.{written_pages};
 ghost use Rattle.version_store.specs.Changes.{kept_blocks};
 ghost use Rattle.audit_core.specs.HostLists.{processors_of};
@@ -13,12 +12,13 @@ ghost use Rattle.audit_core.specs.Stepping.{AcceptsEvent, RefusesEvent, RunsOutO
 
 use crate::hosts::Hosts;
 use crate::memory::Remembered;
-use crate::{asking, listing};
+use crate::{asking, listing, writes};
 use audit_points::audit;
 use elf_core::Core;
 use history_model::answers::Answer;
 use history_model::events::Event;
 use history_model::faults::StepFault;
+use kept_spaces::KeptSpaces;
 use paging_model::access::Access;
 use paging_model::byte_strings::Payload;
 use paging_model::registers::{Machine, PROCESSOR_LIMIT, RegChange, Regs};
@@ -37,6 +37,7 @@ pub struct Session<'a, L: Ledger> {
     machine: Machine,
     stated: bool,
     hosts: Hosts,
+    spaces: KeptSpaces,
     happened: u32,
     poisoned: bool,
 }
@@ -44,7 +45,7 @@ pub struct Session<'a, L: Ledger> {
 impl<'a, L: Ledger> Model for Session<'a, L> {
     ghost use Rattle.std.specs.Prelude.{◌+◌};
     ghost use Rattle.audit_core.specs.HostLists.{AreAuditable, AreBefore};
-    ghost use Rattle.audit_core.specs.Standing.{Holding};
+    ghost use Rattle.audit_core.specs.Standing.{AreTrueSpaces, Holding};
 
     ghost Value = { Holding };
 
@@ -56,10 +57,12 @@ impl<'a, L: Ledger> Model for Session<'a, L> {
       stated = s.stated;
       machine = s.machine;
       hosts = s.hosts;
+      spaces = s.spaces;
     } };
 
-    // Nothing was noted at a time to come, and each processor can be audited now.
-    ghost invariant = { λ s. AreBefore (s.happened + 1) s.hosts × AreAuditable s.happened s.hosts };
+    // Nothing was noted at a time to come, each processor can be audited now, and the kept spaces are true of memory.
+    ghost invariant = { λ s. AreBefore (s.happened + 1) s.hosts × AreAuditable s.happened s.hosts
+        × AreTrueSpaces s.poisoned s.memory.seen s.spaces };
 }
 
 impl<'a, L: Ledger> Session<'a, L> {
@@ -79,6 +82,7 @@ impl<'a, L: Ledger> Session<'a, L> {
             machine: core.machine,
             stated: core.stated,
             hosts,
+            spaces: KeptSpaces::new(alloc),
             happened: 0,
             poisoned: false,
         })
@@ -236,9 +240,10 @@ impl<'a, L: Ledger> Session<'a, L> {
         check(&self.machine, regs).map_err(StepFault::Illegal)
     }
 
-    /// Writes bytes to memory.
+    /// Writes bytes to memory, and to the kept spaces.
     fn write(&mut self, at: u64, bytes: &Payload, steps: &mut Steps<L>) -> Result<Answer, StepFault>
-        requires { self.old.happened + 1 < 2 ^ 32 }
+        requires events { self.old.happened + 1 < 2 ^ 32 }
+        requires unpoisoned { self.old.poisoned ≡ false }
         ensures accepted { IfOk result
             (AcceptsEvent HasAllOf self.old self.new (Event.Write at bytes.now)) }
         ensures refused { IfErr result (λ fault. fault ≢ StepFault.Memory
@@ -246,13 +251,17 @@ impl<'a, L: Ledger> Session<'a, L> {
         ensures out_of_memory { result ≡ Err StepFault.Memory
             → RunsOutOfMemory HasAllOf self.old self.new (Event.Write at bytes.now) }
         ensures time { self.new.happened ≤ self.old.happened + 1 }
-        ensures cost { OnOk result (steps.new ≤ steps.old + slots_written at (length bytes.now)) }
-        ensures out_of_memory_cost { result ≡ Err StepFault.Memory
-            → steps.new ≤ steps.old + slots_written at (length bytes.now) }
-        ensures refused_cost { steps.new ≤ steps.old + 512 }
+        ensures cost { (moment : History) → HasAllOf self.old moment
+            → OnOk result (TakesSteps moment (Event.Write at bytes.now) steps.old steps.new) }
+        ensures out_of_memory_cost { (moment : History) → HasAllOf self.old moment
+            → result ≡ Err StepFault.Memory
+            → TakesSteps moment (Event.Write at bytes.now) steps.old steps.new }
+        ensures refused_cost { IfErr result (λ fault. fault ≢ StepFault.Memory
+            → steps.new ≤ steps.old + 512) }
     {
         let now = self.happened + 1;
-        let written = self.memory.write(now, at, bytes.as_slice(), steps);
+        let spaces = &mut self.spaces;
+        let written = writes::write(&mut self.memory, spaces, now, at, bytes.as_slice(), steps);
         go_on(written, &mut self.happened, &mut self.poisoned)
     }
 
@@ -336,10 +345,11 @@ impl<'a, L: Ledger> Session<'a, L> {
         Ok(Answer::Asked(answer))
     }
 
-    /// Lists what a processor's space grants.
+    /// Lists what a processor's space grants, and keeps the space.
     #[tactic(auto, using(crate::proofs::HostLaws::hosts_later))]
     fn list(&mut self, cpu: u32, steps: &mut Steps<L>) -> Result<Answer, StepFault>
-        requires { self.old.happened + 1 < 2 ^ 32 }
+        requires events { self.old.happened + 1 < 2 ^ 32 }
+        requires unpoisoned { self.old.poisoned ≡ false }
         ensures accepted { IfOk result (AcceptsEvent HasAllOf self.old self.new (Event.List cpu)) }
         ensures refused { IfErr result (λ fault. fault ≢ StepFault.Memory
             → RefusesEvent HasAllOf self.old self.new (Event.List cpu) fault) }
@@ -355,7 +365,14 @@ impl<'a, L: Ledger> Session<'a, L> {
             → steps.new ≡ steps.old) }
     {
         let regs = self.hosts.regs(cpu).ok_or(StepFault::NoProcessor(cpu))?;
-        let listed = listing::list(self.alloc, self.memory.view(), &self.machine, regs, steps);
+        let listed = listing::list(
+            self.alloc,
+            self.memory.view(),
+            &mut self.spaces,
+            &self.machine,
+            regs,
+            steps,
+        );
         let Ok(answer) = listed else {
             self.poisoned = true;
             return Err(StepFault::Memory);
@@ -406,6 +423,8 @@ fn go_on(
     ensures not_counted { OnErr done (happened.new ≡ happened.old) }
     ensures poisoned { done ≡ Err StepFault.Memory → IsTrue poisoned.new }
     ensures stays { done ≢ Err StepFault.Memory → poisoned.new ≡ poisoned.old }
+    ensures unpoisoned { poisoned.new ≡ false
+        → (poisoned.old ≡ false) × (done ≢ Err StepFault.Memory) }
 {
     match done {
         Ok(()) => {

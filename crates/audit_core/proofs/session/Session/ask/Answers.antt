@@ -8,6 +8,7 @@ pub invariant_of-self : goal.invariant_of-self
 invariant_of-self g c = (
   hosts_later _ _ _ (omega arith) c.self.invariant.0,
   auditable_later _ _ _ (omega arith) c.self.invariant.1,
+  c.self.invariant.2,
 )
 
 pub returns-clause-accepted : goal.returns-clause-accepted

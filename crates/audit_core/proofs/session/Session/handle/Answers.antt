@@ -1,18 +1,9 @@
-use Rattle.std.proofs.lemmas.Result.{on_ok_weaker}
-use Rattle.audit_core.proofs.SpaceLists.{ask-steps, on_ok, point-steps, write-steps}
+use Rattle.audit_core.proofs.SpaceLists.{ask-steps, on_ok, point-steps}
 use Rattle.audit_core.proofs.session.Session.handle.Goals as goal
 
 pub returns-in-Ask-clause-cost : goal.returns-in-Ask-clause-cost
 returns-in-Ask-clause-cost g c =
     rw c.in-Ask.is (λ moment has. ask-steps c.ask.result _ _ _ _ _ c.ask.ensures.cost moment)
-
-pub returns-in-Write-clause-cost : goal.returns-in-Write-clause-cost
-returns-in-Write-clause-cost g c =
-    rw c.in-Write.is (λ moment has. on_ok_weaker c.write.result (write-steps moment _ _ _ _) c.write.ensures.cost)
-
-pub returns-in-Write-clause-out_of_memory_cost : goal.returns-in-Write-clause-out_of_memory_cost
-returns-in-Write-clause-out_of_memory_cost g c =
-    rw c.in-Write.is (λ moment has memory. write-steps moment _ _ _ _ (c.write.ensures.out_of_memory_cost memory))
 
 pub returns-in-Point-clause-cost : goal.returns-in-Point-clause-cost
 returns-in-Point-clause-cost g c =

@@ -13,6 +13,7 @@ invariant_of-self g c = (
   auditable_next c.invlpg-noted.result c.self.inside.hosts c.invlpg-noted.new.self c.self.inside.happened c.go_on.new.happened _ _ _
       c.self.invariant.0 c.self.invariant.1 c.invlpg-noted.ensures.noted c.invlpg-noted.ensures.unchanged c.go_on.ensures.counted
       c.go_on.ensures.not_counted,
+  λ is. c.self.invariant.2 (c.go_on.ensures.unpoisoned is).0,
 )
 
 pub returns-clause-accepted : goal.returns-clause-accepted

@@ -8,6 +8,7 @@ pub invariant_of-self-2 : goal.invariant_of-self-2
 invariant_of-self-2 g c = (
   hosts_later _ _ _ (omega arith) c.self.invariant.0,
   auditable_later _ _ _ (omega arith) c.self.invariant.1,
+  c.self.invariant.2,
 )
 
 pub returns-clause-accepted : goal.returns-clause-accepted

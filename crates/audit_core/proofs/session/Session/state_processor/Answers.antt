@@ -8,10 +8,12 @@ pub invariant_of-self : goal.invariant_of-self
 invariant_of-self g c = (
   before_with_one _ _ _ _ _ _ c.self.invariant.0 c.in-Ok.ensures.ok,
   auditable_with_one _ _ _ _ _ _ c.self.invariant.1 c.in-Ok.ensures.ok,
+  c.self.invariant.2,
 )
 
 pub invariant_of-self-in_default : goal.invariant_of-self-in_default
-invariant_of-self-in_default g c = rw c.in_default.ensures.err c.self.invariant
+invariant_of-self-in_default g c =
+    (rw c.in_default.ensures.err c.self.invariant.0, rw c.in_default.ensures.err c.self.invariant.1, λ is. absurd cc)
 
 pub returns-clause-accepted : goal.returns-clause-accepted
 returns-clause-accepted g c =

@@ -1,0 +1,3 @@
+mod KeyLists
+pub mod Listed
+mod Updates
