@@ -96,7 +96,8 @@ def check_names(text):
 def check_laws(text):
     """The functions of the crates of laws, and of other crates' modules of laws, are those of the tables of laws."""
     proved = set()
-    patterns = [f"{crate}/src/*.rt" for crate in ("paging_laws", "history_laws", "audit_laws")]
+    laws = ("paging_laws", "kept_laws", "page_laws", "patch_laws", "plan_laws", "history_laws", "audit_laws")
+    patterns = [f"{crate}/src/*.rt" for crate in laws]
     for pattern in (*patterns, "image_gen/src/laws.rt", "rights/src/laws.rt"):
         for path in (ROOT / "crates").glob(pattern):
             proved |= set(re.findall(r"^pub fn (\w+)", path.read_text(encoding="utf-8"), re.M))
